@@ -1,0 +1,6 @@
+pub mod Tests
+pub mod Reading
+pub mod Loops
+pub mod Back
+pub mod Signed
+pub mod Bytes

@@ -1,0 +1,116 @@
+-- What stands at the places that an accessor reads.
+-- Rests on the table's laws and on the view of a node's record.
+use mathlib.Core.Path.{_≡_, refl, ap, sym, subst, _∙_}
+use mathlib.Core.List.{List, [], _∷_}
+use Prim.Native.Nat.{ℕ, zero, suc, _+_, _*_, _≤_, _<_}
+use native.Mathlib.Omega.{arith}
+use lib.ListN.{length, getD}
+use Rattle.fields.specs.Reading.{Got, got, bad}
+use Rattle.fields.proofs.Bytes.{Bytes}
+use Rattle.schema.specs.Schema.{Node, schemaOf, nodeAt, noVariable, variable}
+use Rattle.schema.specs.Table.{bodyOf, nodeWidth, tableOf, Accepted, NodeIn, AtMost, SuccessorIs}
+use Rattle.schema.specs.Answers.{variableIn}
+use Rattle.schema.specs.declared.Variable.{Variable}
+use Rattle.schema.specs.declared.VariableRead.{VariableRead}
+use Rattle.schema.specs.declared.VariableRead.the-variants.{Found, NoVariable}
+use Rattle.schema.proofs.Sound.{Rising, SoundNode}
+use Rattle.schema.proofs.Reader.{found, not-found}
+use Rattle.schema.proofs.Node.{OneNode, Variables, variablePlace, variables-back}
+use Rattle.schema.proofs.Accepted.{nodePlace, File, file-of, view}
+use Rattle.schema.proofs.Table.{table-node, table-variable}
+
+pub rising-at : (own count : ℕ) (xs : List ℕ) (j : ℕ) → Rising own count xs → j < length xs → (own < getD xs j 0) × (getD xs j 0 < count)
+rising-at own count [] j r h = absurd (omega arith)
+rising-at own count (x ∷ xs) zero r h = (r .0, r .1)
+rising-at own count (x ∷ xs) (suc j) r h = let w = rising-at x count xs j (r .2) (omega arith) in let z = r .0 in (omega (arith, w .0), w .1)
+
+-- node n's record, at the place that the table tells
+pub record Here (s t : List ℕ) (n : ℕ) (g : List Node) : Type 0 where
+  pub small : n < 64
+  pub one : OneNode s (length g) n (getD t n 0) (nodeAt g n) (getD t n 0 + nodeWidth (nodeAt g n))
+
+pub here : (s t : List ℕ) (n : ℕ) → NodeIn s t n → Here s t n (schemaOf s)
+here s t n h =
+    let f = file-of s (let z = h .below in omega arith) in
+    let e : getD t n 0 ≡ nodePlace 3 (schemaOf s) n = ap (λ (l : List ℕ). getD l n 0) (h .table) ∙ table-node (schemaOf s) n (h .below) (f .few) in
+    let v = view s f n (h .below) in
+    let o = subst (λ (p : ℕ). OneNode s (length (schemaOf s)) n p (nodeAt (schemaOf s) n) (nodePlace 3 (schemaOf s) (suc n))) (sym e) v in
+    record { small = omega (arith, h .below, f .few); one = subst (OneNode s (length (schemaOf s)) n (getD t n 0) (nodeAt (schemaOf s) n)) (o .end) o }
+
+-- the places are inside the table and the file
+module _ (s t : List ℕ) (n : ℕ) where
+  pub node-small : NodeIn s t n → n < 64
+  node-small h = here s t n h .small
+
+  pub node-inside : NodeIn s t n → getD t n 0 + bodyOf (nodeAt (schemaOf s) n) ≤ length s
+  node-inside h = here s t n h .one .inside
+
+  pub linked-at : NodeIn s t n → getD s (getD t n 0 + 3) 0 ≡ length (nodeAt (schemaOf s) n .successors)
+  linked-at h = sym (here s t n h .one .linked)
+
+  pub linked-inside : {c : ℕ} → NodeIn s t n → c ≡ getD s (getD t n 0 + 3) 0 → getD t n 0 + 4 + c < length s
+  linked-inside h e = let a = node-inside h in omega (arith, linked-at h)
+
+pub ruleset places = (node-small, node-inside)
+
+-- what an accessor returns
+module _ (s t : List ℕ) (n : ℕ) (h : NodeIn s t n) (b : Bytes s) where
+  sound-here : SoundNode (length (schemaOf s)) n (nodeAt (schemaOf s) n)
+  sound-here = here s t n h .one .sound b
+
+  pub kind-at : AtMost 1 (nodeAt (schemaOf s) n .kind) (getD s (getD t n 0 + 2) 0)
+  kind-at = let e = here s t n h .one .kind in record { is = sym e; most = omega (arith, sound-here .kind-most) }
+
+  pub links-at : {r : ℕ} → r ≡ getD s (getD t n 0 + 3) 0 → AtMost 8 (length (nodeAt (schemaOf s) n .successors)) r
+  links-at e = let z = linked-at s t n h in record { is = e ∙ z; most = omega (arith, sound-here .few) }
+
+  pub link-at : {r : ℕ} (j : ℕ) → j < length (nodeAt (schemaOf s) n .successors) → r ≡ getD s (getD t n 0 + 4 + j) 0 → SuccessorIs (schemaOf s) n j r
+  link-at j k e =
+      let z = here s t n h .one .links j k in
+      let w = rising-at n (length (schemaOf s)) (nodeAt (schemaOf s) n .successors) j (sound-here .rising) k in
+      record { is = e ∙ sym z; above = omega (arith, w .0); below = omega (arith, w .1) }
+
+  pub variables-count : {c r : ℕ} → c ≡ getD s (getD t n 0 + 3) 0 → r ≡ getD s (getD t n 0 + 4 + c) 0 → AtMost 4 (length (nodeAt (schemaOf s) n .variables)) r
+  variables-count {c} {r} e k =
+      let v = here s t n h .one .varied in
+      let z : r ≡ length (nodeAt (schemaOf s) n .variables) = k ∙ ap (λ (c : ℕ). getD s (getD t n 0 + 4 + c) 0) (e ∙ linked-at s t n h) ∙ sym v in
+      record { is = z; most = omega (arith, sound-here .few-variables) }
+
+-- a variable, where the table tells that it begins
+few-here : (s t : List ℕ) (n : ℕ) → NodeIn s t n → length (nodeAt (schemaOf s) n .variables) ≤ 4
+few-here s t n h = here s t n h .one .few-variables
+
+pub variable-here : (s t : List ℕ) (n k : ℕ) → NodeIn s t n → k < length (nodeAt (schemaOf s) n .variables)
+    → (q : ℕ) × (variable s (getD t (64 + 4 * n + k) 0) ≡ got (getD (nodeAt (schemaOf s) n .variables) k noVariable) q)
+variable-here s t n k h l =
+    let f = file-of s (let z = h .below in omega arith) in
+    let o = view s f n (h .below) in
+    let v = variables-back s (length (nodeAt (schemaOf s) n .variables)) (nodePlace 3 (schemaOf s) n + bodyOf (nodeAt (schemaOf s) n)) (o .vars) in
+    let e = ap (λ (l : List ℕ). getD l (64 + 4 * n + k) 0) (h .table) ∙ table-variable (schemaOf s) n k (h .below) l (few-here s t n h) (f .few) in
+    (variablePlace (nodePlace 3 (schemaOf s) n + bodyOf (nodeAt (schemaOf s) n)) (nodeAt (schemaOf s) n .variables) (suc k), ap (variable s) e ∙ v .each k l)
+
+pub variable-at : (s t : List ℕ) (n k : ℕ) {f : VariableRead} {v : Variable} {q : ℕ} → NodeIn s t n → k < length (nodeAt (schemaOf s) n .variables)
+    → f ≡ variableIn (variable s (getD t (64 + 4 * n + k) 0)) → f ≡ Found v q → v ≡ getD (nodeAt (schemaOf s) n .variables) k noVariable
+variable-at s t n k h l e g =
+    let a = variable-here s t n k h l in
+    let b = found (variable s (getD t (64 + 4 * n + k) 0)) e g in
+    let c = a .1 in
+    cc
+
+pub variable-none : (s t : List ℕ) (n k : ℕ) {f : VariableRead} {m o : ℕ} {v : Variable} → NodeIn s t n → k < length (nodeAt (schemaOf s) n .variables)
+    → f ≡ variableIn (variable s (getD t (64 + 4 * n + k) 0)) → f ≡ NoVariable m o → v ≡ getD (nodeAt (schemaOf s) n .variables) k noVariable
+variable-none s t n k h l e g =
+    let a = variable-here s t n k h l in
+    let b = not-found (variable s (getD t (64 + 4 * n + k) 0)) e g in
+    let c = a .1 in
+    absurd (let z : _≡_ {A = ℕ} 0 1 = cc in omega arith)
+
+pub variable-small : (s t : List ℕ) (n k : ℕ) → NodeIn s t n → k < length (nodeAt (schemaOf s) n .variables) → 64 + 4 * n + k < 320
+variable-small s t n k h l = omega (arith, node-small s t n h, few-here s t n h)
+
+-- the count
+pub count-inside : (s : List ℕ) → Accepted s → 2 < length s
+count-inside s a = file-of s (a .some) .inside
+
+pub count-at : (s : List ℕ) {r : ℕ} → Accepted s → r ≡ getD s 2 0 → AtMost 64 (length (schemaOf s)) r
+count-at s a e = let f = file-of s (a .some) in record { is = e ∙ sym (f .count); most = omega (arith, f .few, f .count) }

@@ -1,0 +1,43 @@
+-- Each return is one way that a field or a part can end.
+-- Rests on the laws of reading.
+use Rattle.fields.proofs.Reading.{reading}
+use Rattle.schema.specs.Schema.{variablesOf}
+use borrow.Author.Needs.{needs}
+use Rattle.schema.proofs.read_variables_of.Statement.{statement}
+use Rattle.schema.proofs.read_variables_of.Tie as tie
+
+read-u8-requires : tie.Need-read-u8-requires
+read-u8-requires c κs = search needs
+
+enum-known-number : tie.Need-enum-known-number
+enum-known-number c = search needs
+
+enum-known-value : tie.Need-enum-known-value
+enum-known-value c = search needs
+
+returns : tie.Need-returns
+unfolding variablesOf
+returns c = search reading depth 9
+
+read-variables-requires : tie.Need-read-variables-requires
+read-variables-requires c κs = search needs
+
+returns-2 : tie.Need-returns-2
+unfolding variablesOf
+returns-2 c = search reading depth 9
+
+returns-3 : tie.Need-returns-3
+unfolding variablesOf
+returns-3 c = search reading depth 9
+
+pub read-variables-of-spec : {M : Type 1} → statement M
+read-variables-of-spec =
+    tie.close
+    (tie.spec
+    read-u8-requires
+    enum-known-number
+    enum-known-value
+    returns
+    read-variables-requires
+    returns-2
+    returns-3)

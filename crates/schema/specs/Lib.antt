@@ -1,0 +1,3 @@
+pub mod Schema
+pub mod Table
+pub mod Answers

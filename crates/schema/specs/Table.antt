@@ -1,0 +1,81 @@
+-- Where the records and variables of an accepted schema stand in its file, and what the accessors tell.
+use Prim.Native.Nat.{ℕ, zero, suc, _+_, _*_, _<_, _≤_}
+use mathlib.Core.Path.{_≡_}
+use mathlib.Core.List.{List, [], _∷_}
+use mathlib.Core.Bool.{cond}
+use lib.Dec.{eqb}
+use lib.ListN.{length, getD, set, replicate}
+use Rattle.schema.specs.Schema.{Node, schemaOf, nodeAt, variables}
+use Rattle.fields.specs.Reading.{Got, got, bad}
+use Rattle.schema.specs.declared.Variable.{Variable}
+use Rattle.schema.specs.declared.Variable.the-variants.{Number, Listed}
+
+-- the bytes of a variable, of its variables and of a node's whole record
+unfoldable pub variableWidth : Variable → ℕ
+variableWidth (Number lo hi) = 9
+variableWidth (Listed size) = 2
+
+unfoldable pub variablesWidth : List Variable → ℕ
+variablesWidth [] = 0
+variablesWidth (v ∷ vs) = variableWidth v + variablesWidth vs
+
+-- the place of a node's first variable, counted from its record
+abbrev pub bodyOf : Node → ℕ
+bodyOf x = 5 + length (x .successors)
+
+unfoldable pub nodeWidth : Node → ℕ
+nodeWidth x = bodyOf x + variablesWidth (x .variables)
+
+-- place 64 + 4 n + k of the table: where variable k of node n begins
+unfoldable pub fillVariables : ℕ → ℕ → ℕ → List Variable → List ℕ → List ℕ
+fillVariables n k p [] t = t
+fillVariables n k p (v ∷ vs) t = fillVariables n (k + 1) (p + variableWidth v) vs (set t (64 + 4 * n + k) p)
+
+-- place n of the table: where the record of node n begins
+unfoldable pub fillNodes : ℕ → ℕ → List Node → List ℕ → List ℕ
+fillNodes n p [] t = t
+fillNodes n p (x ∷ xs) t = fillNodes (n + 1) (p + nodeWidth x) xs (fillVariables n 0 (p + bodyOf x) (x .variables) (set t n p))
+
+unfoldable pub tableOf : List Node → List ℕ
+tableOf g = fillNodes 0 3 g (replicate 320 0)
+
+-- the bytes of the variable at a place, by its type
+abbrev pub widthAt : List ℕ → ℕ → ℕ
+widthAt s p = cond (eqb (getD s p 0) 0) 9 2
+
+abbrev pub variablesIn : Got (List Variable) → List Variable
+variablesIn (got vs p) = vs
+variablesIn (bad n o) = []
+
+-- v variables of node n are read from p on, and the table has its 320 places
+pub record Filling (s : List ℕ) (n v p : ℕ) (t : List ℕ) : Type 0 where
+  pub small : n < 64
+  pub few : v ≤ 4
+  pub long : length t ≡ 320
+  pub end : ℕ
+  pub read : variables s v p ≡ got (variablesIn (variables s v p)) end
+
+-- the table with their places, and the place r after them
+pub record Filled (s : List ℕ) (n v p : ℕ) (t after : List ℕ) (r : ℕ) : Type 0 where
+  pub table : after ≡ fillVariables n 0 p (variablesIn (variables s v p)) t
+  pub end : r ≡ p + variablesWidth (variablesIn (variables s v p))
+
+-- the file is accepted
+pub record Accepted (s : List ℕ) : Type 0 where
+  pub some : 0 < length (schemaOf s)
+
+-- t is the table of the file s, and n one of its nodes
+pub record NodeIn (s t : List ℕ) (n : ℕ) : Type 0 where
+  pub table : t ≡ tableOf (schemaOf s)
+  pub below : n < length (schemaOf s)
+
+-- r is x, which is at most m
+pub record AtMost (m x r : ℕ) : Type 0 where
+  pub is : r ≡ x
+  pub most : r ≤ m
+
+-- r is successor j of node n
+pub record SuccessorIs (g : List Node) (n j r : ℕ) : Type 0 where
+  pub is : r ≡ getD (nodeAt g n .successors) j 0
+  pub above : n < r
+  pub below : r < length g
