@@ -1,21 +1,25 @@
 -- What stands at the places that an accessor reads.
 -- Rests on the table's laws and on the view of a node's record.
 use mathlib.Core.Path.{_≡_, refl, ap, sym, subst, _∙_}
+use mathlib.Core.Bool.{Bool, true, false, cond}
 use mathlib.Core.List.{List, [], _∷_}
 use Prim.Native.Nat.{ℕ, zero, suc, _+_, _*_, _≤_, _<_}
 use native.Mathlib.Omega.{arith}
+use borrow.Author.Tests.{eq-eqb, ne-eqb}
+use lib.Dec.{eqb}
 use lib.ListN.{length, getD}
 use Rattle.fields.specs.Reading.{Got, got, bad}
 use Rattle.fields.proofs.Bytes.{Bytes}
-use Rattle.schema.specs.Schema.{Node, schemaOf, nodeAt, noVariable, variable}
-use Rattle.schema.specs.Table.{bodyOf, nodeWidth, tableOf, Accepted, NodeIn, AtMost, SuccessorIs}
+use Rattle.schema.specs.Schema.{Node, schemaOf, nodeAt, noVariable, isNumber, variable}
+use Rattle.schema.specs.Table.{variableWidth, bodyOf, nodeWidth, tableOf, Accepted, NodeIn, AtMost, SuccessorIs}
 use Rattle.schema.specs.Answers.{variableIn}
 use Rattle.schema.specs.declared.Variable.{Variable}
 use Rattle.schema.specs.declared.VariableRead.{VariableRead}
 use Rattle.schema.specs.declared.VariableRead.the-variants.{Found, NoVariable}
+use Rattle.schema.specs.declared.Variable.the-variants.{Number, Listed}
 use Rattle.schema.proofs.Sound.{Rising, SoundNode}
 use Rattle.schema.proofs.Reader.{found, not-found}
-use Rattle.schema.proofs.Node.{OneNode, Variables, variablePlace, variables-back}
+use Rattle.schema.proofs.Node.{OneNode, OneVariable, Variables, variablePlace, variable-back, variables-back}
 use Rattle.schema.proofs.Accepted.{nodePlace, File, file-of, view}
 use Rattle.schema.proofs.Table.{table-node, table-variable}
 
@@ -114,3 +118,38 @@ count-inside s a = file-of s (a .some) .inside
 
 pub count-at : (s : List ℕ) {r : ℕ} → Accepted s → r ≡ getD s 2 0 → AtMost 64 (length (schemaOf s)) r
 count-at s a e = let f = file-of s (a .some) in record { is = e ∙ sym (f .count); most = omega (arith, f .few, f .count) }
+
+-- its type
+type-inside : (s : List ℕ) (p : ℕ) {v : Variable} {q : ℕ} → variable s p ≡ got v q → p < length s
+unfolding variableWidth
+type-inside s p {v} e = go v (variable-back s p e)
+  where
+    go : (v : Variable) {q : ℕ} → OneVariable s p v q → p < length s
+    go (Number lo hi) o = omega (arith, o .end, o .inside)
+    go (Listed size) o = omega (arith, o .end, o .inside)
+
+pub variable-inside : (s t : List ℕ) (n k : ℕ) → NodeIn s t n → k < length (nodeAt (schemaOf s) n .variables) → getD t (64 + 4 * n + k) 0 < length s
+variable-inside s t n k h l = type-inside s (getD t (64 + 4 * n + k) 0) (variable-here s t n k h l .1)
+
+type-is : (s : List ℕ) (p : ℕ) (v : Variable) → cond (eqb (getD s p 0) 0) 9 2 ≡ variableWidth v → eqb (getD s p 0) 0 ≡ isNumber v
+unfolding variableWidth
+type-is s p (Number lo hi) e = go (eqb (getD s p 0) 0) e
+  where
+    go : (b : Bool) → _≡_ {A = ℕ} (cond b 9 2) 9 → b ≡ true
+    go true e = refl
+    go false e = absurd (omega arith)
+type-is s p (Listed size) e = go (eqb (getD s p 0) 0) e
+  where
+    go : (b : Bool) → _≡_ {A = ℕ} (cond b 9 2) 2 → b ≡ false
+    go true e = absurd (omega arith)
+    go false e = refl
+
+module _ (s t : List ℕ) (n k : ℕ) (h : NodeIn s t n) (l : k < length (nodeAt (schemaOf s) n .variables)) where
+  type-at : eqb (getD s (getD t (64 + 4 * n + k) 0) 0) 0 ≡ isNumber (getD (nodeAt (schemaOf s) n .variables) k noVariable)
+  type-at = type-is s (getD t (64 + 4 * n + k) 0) (getD (nodeAt (schemaOf s) n .variables) k noVariable) (variable-back s (getD t (64 + 4 * n + k) 0) (variable-here s t n k h l .1) .type)
+
+  pub number-yes : getD s (getD t (64 + 4 * n + k) 0) 0 ≡ 0 → true ≡ isNumber (getD (nodeAt (schemaOf s) n .variables) k noVariable)
+  number-yes e = sym (eq-eqb (getD s (getD t (64 + 4 * n + k) 0) 0) 0 e) ∙ type-at
+
+  pub number-no : (getD s (getD t (64 + 4 * n + k) 0) 0 ≡ 0 → ⊥) → false ≡ isNumber (getD (nodeAt (schemaOf s) n .variables) k noVariable)
+  number-no e = sym (ne-eqb (getD s (getD t (64 + 4 * n + k) 0) 0) 0 e) ∙ type-at

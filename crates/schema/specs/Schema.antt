@@ -105,3 +105,7 @@ noVariable = Listed 0
 
 abbrev pub variableAt : List Node → ℕ → ℕ → Variable
 variableAt g n k = getD (nodeAt g n .variables) k noVariable
+
+abbrev pub isNumber : Variable → Bool
+isNumber (Number lo hi) = true
+isNumber (Listed size) = false

@@ -4,7 +4,7 @@ ghost use Prim.Native.Nat.{ℕ, _+_, _*_, _<_, _≤_};
 ghost use lib.ListN.{length, getD};
 ghost use Rattle.fields.specs.Reading.{signed};
 ghost use Rattle.fields.specs.Answers.{stepOf, judged, success};
-ghost use Rattle.schema.specs.Schema.{number, listed, variable, variables, variablesOf, successors, links, node, nodes, body, schema, schemaOf, nodeAt, variableAt};
+ghost use Rattle.schema.specs.Schema.{number, listed, variable, variables, variablesOf, successors, links, node, nodes, body, schema, schemaOf, nodeAt, variableAt, isNumber};
 ghost use Rattle.schema.specs.Table.{tableOf, widthAt, Filling, Filled, Accepted, NodeIn, AtMost, SuccessorIs};
 ghost use Rattle.schema.specs.Answers.{variableIn};
 use fields::Answer;
@@ -415,4 +415,17 @@ pub fn variable_of(s: &[u8], table: &[usize; 320], n: usize, k: usize) -> Variab
         } => Variable::Listed { size: 0 },
         VariableRead::Found { variable, next: _ } => variable,
     }
+}
+
+// Whether node n's variable k is a number.
+pub fn is_number(s: &[u8], table: &[usize; 320], n: usize, k: usize) -> bool
+    requires { ⌜ NodeIn (now s) (now table) n ⌝ }
+    requires { ⌜ k < length (nodeAt (schemaOf (now s)) n .variables) ⌝ }
+    ensures { λ r. ⌜ r ≡ isNumber (variableAt (schemaOf (now (s .entry))) n k) ⌝ }
+{
+    let at = table[64 + 4 * n + k];
+    if s[at] == 0 {
+        return true;
+    }
+    false
 }
