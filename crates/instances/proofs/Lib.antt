@@ -1,0 +1,13 @@
+pub mod Valid
+pub mod Lengths
+pub mod Planned
+pub mod At
+pub mod Trip
+pub mod RoundTrip
+pub mod Refusals
+pub mod Examples
+pub mod Due
+pub mod Reader
+pub mod Lookup
+pub mod Writer
+pub mod Copying

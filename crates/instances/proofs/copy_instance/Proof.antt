@@ -1,0 +1,43 @@
+-- An accepted file is the encoding of what was read.
+-- Rests on the ruleset copying.
+use borrow.Author.Needs.{needs}
+use Rattle.instances.proofs.Copying.{copies}
+use Rattle.instances.proofs.copy_instance.Statement.{statement}
+use Rattle.instances.proofs.copy_instance.Tie as tie
+
+table-of-requires : tie.Need-table-of-requires
+table-of-requires c κs = search needs
+
+read-instance-requires : tie.Need-read-instance-requires
+read-instance-requires c κs = search needs
+
+enum-known-number : tie.Need-enum-known-number
+enum-known-number c = search needs
+
+enum-told : tie.Need-enum-told
+enum-told c = search needs
+
+place-requires : tie.Need-place-requires
+place-requires c κs = search needs
+
+returns : tie.Need-returns
+returns c = search copies
+
+same-length : tie.Need-same-length
+same-length c = search needs
+
+returns-2 : tie.Need-returns-2
+returns-2 c = search copies
+
+pub copy-instance-spec : {M : Type 1} → statement M
+copy-instance-spec =
+    tie.close
+    (tie.spec
+    table-of-requires
+    read-instance-requires
+    enum-known-number
+    enum-told
+    place-requires
+    returns
+    same-length
+    returns-2)

@@ -1,0 +1,75 @@
+-- What the crates above have of the reader's answers: the index belongs to the policies, a refusal to the file.
+-- Rests on what the contracts tell, and on Pass for the list of the policies in force.
+use mathlib.Core.Path.{_≡_, refl, ap, sym, _∙_}
+use mathlib.Core.Bool.{_&&_}
+use mathlib.Core.List.{List}
+use Prim.Native.Nat.{ℕ, _+_, _≤_, _<_}
+use native.Mathlib.Omega.{arith}
+use borrow.Author.Tests.{leb-true}
+use lib.ListN.{length, getD, drop, List·getD-append}
+use lib.Dec.{leb}
+use Rattle.fields.specs.Reading.{Got, got, bad}
+use Rattle.fields.specs.Writing.{put}
+use Rattle.fields.proofs.Back.{chosen}
+use Rattle.fields.proofs.Tests.{and-true}
+use Rattle.schema.specs.Schema.{schemaOf}
+use Rattle.policies.specs.Policies.{Policy, policies, policiesIn, policiesOf, policyAt}
+use Rattle.policies.specs.Pass.{pass, forced, positions, Listing}
+use Rattle.policies.specs.Index.{Indexed, PolicyIn, policyOf}
+use Rattle.policies.specs.Answers.{policiesRead, Told}
+use Rattle.policies.specs.declared.PoliciesRead.{PoliciesRead}
+use Rattle.policies.specs.declared.PoliciesRead.the-variants.{Policies, Refused}
+use Rattle.policies.proofs.Pass.{positions-of, lists-at}
+
+-- ---- the file
+
+read-count : (r : Got (List Policy)) {n : ℕ} → Policies n ≡ policiesRead r → (q : ℕ) × (r ≡ got (policiesIn r) q) × (n ≡ length (policiesIn r))
+read-count (got ps q) e = (q, refl, (cc))
+read-count (bad m o) e = absurd (let z : _≡_ {A = ℕ} 0 1 = cc in omega arith)
+
+read-refused : (r : Got (List Policy)) {m o : ℕ} → Refused m o ≡ policiesRead r → r ≡ bad m o
+read-refused (got ps q) e = absurd (let z : _≡_ {A = ℕ} 0 1 = cc in omega arith)
+read-refused (bad m o) e = cc
+
+module _ (schema p t : List ℕ) {f : PoliciesRead} (w : Told schema p f t) where
+  pub accepted-policies : {n : ℕ} → f ≡ Policies n → (q : ℕ) × (policies (schemaOf schema) p ≡ got (policiesOf (schemaOf schema) p) q)
+  unfolding policiesOf
+  accepted-policies e = let r = read-count (policies (schemaOf schema) p) (sym e ∙ w .answer) in (r .0, r .1)
+
+  pub indexed : {n : ℕ} → f ≡ Policies n → Indexed schema p t n
+  unfolding policiesOf
+  indexed e = record { index = w .index; counted = read-count (policies (schemaOf schema) p) (sym e ∙ w .answer) .2 }
+
+  pub refused-policies : {m o : ℕ} → f ≡ Refused m o → policies (schemaOf schema) p ≡ bad m o
+  refused-policies e = read-refused (policies (schemaOf schema) p) (sym e ∙ w .answer)
+
+-- ---- the policies in force
+
+put-front : (t js : List ℕ) (i : ℕ) → i < length js → getD (put t 0 js) i 0 ≡ getD js i 0
+unfolding put
+put-front t js i h = List·getD-append js (drop (0 + length js) t) 0 i h
+
+-- the i-th of the list is the position of the i-th policy in force
+module _ (schema p t : List ℕ) (a b : ℕ) (l₀ l : List ℕ) (i : ℕ) {count n : ℕ} (w : Indexed schema p t count)
+    (k : Listing (positions a b 0 (policiesOf (schemaOf schema) p)) l₀ l n) (h : i < n) where
+  at : (getD (positions a b 0 (policiesOf (schemaOf schema) p)) i 0 < length (policiesOf (schemaOf schema) p))
+      × (policyOf schema p (getD (positions a b 0 (policiesOf (schemaOf schema) p)) i 0) ≡ policyAt (forced a b (policiesOf (schemaOf schema) p)) i)
+  at = lists-at (positions-of a b (policiesOf (schemaOf schema) p)) i (omega (arith, k .count))
+
+  here : getD l i 0 ≡ getD (positions a b 0 (policiesOf (schemaOf schema) p)) i 0
+  here = ap (λ (x : List ℕ). getD x i 0) (k .list) ∙ put-front l₀ (positions a b 0 (policiesOf (schemaOf schema) p)) i (omega (arith, k .count))
+
+  pub forced-in : PolicyIn schema p t (getD l i 0)
+  forced-in = record { index = w .index; below = omega (arith, here, at .0) }
+
+  pub forced-is : policyOf schema p (getD l i 0) ≡ policyAt (forced a b (policiesOf (schemaOf schema) p)) i
+  forced-is = ap (policyOf schema p) here ∙ at .1
+
+-- ---- the pass
+
+pub pass-days : (a b : ℕ) {v q : ℕ} → pass a b ≡ got v q → (a ≤ b) × (b ≤ a + 1)
+unfolding pass
+pass-days a b e =
+    let c = chosen (leb a b && leb b (a + 1)) (got a 0) 12 0 e in
+    let t = and-true (leb a b) (leb b (a + 1)) (c .0) in
+    (leb-true a b (t .0), leb-true b (a + 1) (t .1))

@@ -1,0 +1,15 @@
+pub mod Stands
+pub mod Sound
+pub mod Index
+pub mod Nodes
+pub mod Places
+pub mod Within
+pub mod Rules
+pub mod File
+pub mod Body
+pub mod Laying
+pub mod Pass
+pub mod Combine
+pub mod Reader
+pub mod Above
+pub mod Examples

@@ -1,0 +1,235 @@
+-- What the accessors find through the index: the place of a policy's rule for a node, and what the bytes there spell.
+-- Rests on Index (what stands at each place) and on Stands (what the bytes of an accepted file spell).
+use mathlib.Core.Path.{_≡_, refl, ap, sym, _∙_, subst}
+use mathlib.Core.Bool.{Bool, true, false, cond}
+use mathlib.Core.List.{List, _∷_}
+use Prim.Native.Nat.{ℕ, zero, suc, _+_, _-_, _*_, _≤_, _<_}
+use native.Mathlib.Omega.{arith}
+use native.Mathlib.Nat.{add-zero, zero-add}
+use borrow.Author.Tests.{eqb-true}
+use lib.ListN.{length, getD, take, drop, length-drop}
+use lib.Seq.{take-all}
+use lib.Dec.{eqb}
+use lib.Bits.{bitAnd}
+use Rattle.fields.specs.Reading.{be, signed}
+use Rattle.schema.specs.Schema.{Node, nodeAt, schemaOf, variableAt, noVariable}
+use Rattle.schema.specs.declared.Variable.{Variable}
+use Rattle.schema.specs.declared.Variable.the-variants.{Number, Listed}
+use Rattle.policies.specs.Policies.{Condition, range, Rule, Policy, rankCount, policiesOf, policyAt, noRule, ruleFor, rankOf, conditionsOf}
+use Rattle.policies.specs.Index.{conditionWidth, ruleWidth, policyWidth, policyOf, Indexed, PolicyIn, RankIn}
+use Rattle.policies.specs.Combine.{narrow, sieve, narrowBy, sieveBy, span, spans, offsetOf, NumberIn, ListedIn}
+use Rattle.policies.specs.declared.Range.{Range}
+use Rattle.policies.proofs.Stands.{RangeAt, MaskAt, ConditionAt, ConditionsAt, none, more, RuleAt, RulesAt, PolicyAt, PoliciesAt}
+use Rattle.policies.proofs.Sound.{stood}
+use Rattle.policies.proofs.Nodes.{nodes-few}
+use Rattle.policies.proofs.Index.{headOf, placeOf, index-row, index-head}
+
+-- ---- a rule's place
+
+-- the place where the ranks of node n begin, and what is said of it: 0 exactly if nothing is
+pub data Place (g : List Node) (s : List ℕ) (n : ℕ) : ℕ → Rule → Type 0 where
+  absent : Place g s n 0 noRule
+  present : {p : ℕ} {x : Rule} → x .node ≡ n → RuleAt g s p x → Place g s n (p + 3) x
+
+pub place : {g : List Node} {s : List ℕ} {low p : ℕ} {xs : List Rule} (n : ℕ) → RulesAt g s low p xs → Place g s n (placeOf n p xs) (ruleFor n xs)
+unfolding placeOf ruleFor
+place n none = absent
+place {g} {s} {p = p} n (more {x = x} {xs = xs} a h t) = go (eqb (x .node) n) refl (place n t)
+  where
+    go : (b : Bool) → eqb (x .node) n ≡ b → Place g s n (placeOf n (p + ruleWidth x) xs) (ruleFor n xs)
+        → Place g s n (cond b (p + 3) (placeOf n (p + ruleWidth x) xs)) (cond b x (ruleFor n xs))
+    go true e r = present (eqb-true (x .node) n e) h
+    go false e r = r
+
+-- ---- a policy's stretch
+
+pub record Stretch (g : List Node) (s : List ℕ) (h : ℕ) (x : Policy) : Type 0 where
+  pub inside : h < length s
+  pub policy : PolicyAt g (drop h s) x
+
+stretch-at : {g : List Node} {s : List ℕ} {h : ℕ} {xs : List Policy} → PoliciesAt g s h xs → (j : ℕ) → j < length xs → Stretch g s (h + headOf xs j) (policyAt xs j)
+unfolding headOf
+stretch-at none j l = absurd (omega arith)
+stretch-at {g} {s} {h} (more {x = x} a p t) zero l =
+    subst (λ (i : ℕ). Stretch g s i x) (sym (add-zero h)) (record { inside = a; policy = p })
+stretch-at {g} {s} {h} (more {x = x} {xs = xs} a p t) (suc j) l =
+    subst (λ (i : ℕ). Stretch g s i (policyAt xs j)) (let z : h + policyWidth x + headOf xs j ≡ h + (policyWidth x + headOf xs j) = omega arith in z)
+    (stretch-at t j (omega arith))
+
+-- what a callee of `f(&s[h..])` is lent
+pub rest : (s : List ℕ) (h : ℕ) → take (length s - h) (drop h s) ≡ drop h s
+rest s h = take-all (length s - h) (drop h s) (simp length-drop (omega arith))
+
+-- ---- a rank
+
+module _ (g : List Node) (s : List ℕ) (n k : ℕ) where
+  rank-absent : {i : ℕ} {x : Rule} → Place g s n i x → i ≡ 0 → 0 ≡ getD (x .ranks) k 0
+  rank-absent absent e = refl
+  rank-absent (present a h) e = absurd (omega arith)
+
+  record Rank (i : ℕ) (x : Rule) : Type 0 where
+    pub inside : i + k < length s
+    pub is : getD s (i + k) 0 ≡ getD (x .ranks) k 0
+
+  rank-present : {i : ℕ} {x : Rule} → Place g s n i x → (i ≡ 0 → ⊥) → k < rankCount (nodeAt g n) → Rank i x
+  rank-present absent e l = absurd (e refl)
+  rank-present (present {x = x} a h) e l =
+      let c : k < length (x .ranks) = rw (h .count, a) l in
+      let m = h .ranks .inside (omega arith) in
+      record { inside = omega arith; is = sym (h .ranks .each k c) }
+
+-- ---- a condition
+
+width-span : (s : List ℕ) (p : ℕ) (v : Variable) (c : Condition) → ConditionAt s p v c → conditionWidth c ≡ span v
+unfolding conditionWidth span
+width-span s p (Number lo hi) c h = rw (h .is)
+width-span s p (Listed size) c h = rw (h .is)
+
+-- condition k of a node
+record Kth (s : List ℕ) (p : ℕ) (v : Variable) (cs : List Condition) (k : ℕ) : Type 0 where
+  pub what : Condition
+  pub narrows : (r : Range) → narrowBy cs k r ≡ narrow what r
+  pub sieves : (u : ℕ) → sieveBy cs k u ≡ sieve what u
+  pub stands : ConditionAt s p v what
+
+kth : {s : List ℕ} {p : ℕ} {vs : List Variable} {cs : List Condition} → ConditionsAt s p vs cs → (k : ℕ) → k < length vs
+    → Kth s (p + spans k vs) (getD vs k noVariable) cs k
+unfolding narrowBy sieveBy spans
+kth none k l = absurd (omega arith)
+kth {s} {p} (more {v = v} {c = c} {cs = cs} h t) zero l =
+    subst (λ (i : ℕ). Kth s i v (c ∷ cs) 0) (sym (add-zero p))
+    (record { what = c; narrows = λ r. refl; sieves = λ u. refl; stands = h })
+kth {s} {p} (more {v = v} {vs = vs} {c = c} {cs = cs} h t) (suc k) l =
+    let r = kth t k (omega arith) in
+    let e : p + conditionWidth c + spans k vs ≡ p + (span v + spans k vs) = omega (arith, width-span s p v c h) in
+    subst (λ (i : ℕ). Kth s i (getD vs k noVariable) (c ∷ cs) (suc k)) e
+    (record { what = r .what; narrows = r .narrows; sieves = r .sieves; stands = r .stands })
+
+module _ (g : List Node) (s : List ℕ) (n k : ℕ) where
+  -- nothing is said: nothing is narrowed
+  narrow-absent : {i : ℕ} {x : Rule} (r : Range) → Place g s n i x → i ≡ 0 → r ≡ narrowBy (x .conditions) k r
+  unfolding narrowBy
+  narrow-absent r absent e = refl
+  narrow-absent r (present a h) e = absurd (omega arith)
+
+  sieve-absent : {i : ℕ} {x : Rule} (u : ℕ) → Place g s n i x → i ≡ 0 → u ≡ sieveBy (x .conditions) k u
+  unfolding sieveBy
+  sieve-absent u absent e = refl
+  sieve-absent u (present a h) e = absurd (omega arith)
+
+  kth-present : {i : ℕ} {x : Rule} → Place g s n i x → (i ≡ 0 → ⊥) → k < length (nodeAt g n .variables)
+      → Kth s (i + offsetOf (nodeAt g n) k) (variableAt g n k) (x .conditions) k
+  unfolding offsetOf
+  kth-present absent e l = absurd (e refl)
+  kth-present (present {p = p} {x = x} a h) e l =
+      subst (λ (m : ℕ). Kth s (p + 3 + (rankCount (nodeAt g m) + spans k (nodeAt g m .variables))) (variableAt g m k) (x .conditions) k) a
+      (subst (λ (i : ℕ). Kth s i (variableAt g (x .node) k) (x .conditions) k)
+      (let z : p + 3 + length (x .ranks) + spans k (nodeAt g (x .node) .variables) ≡ p + 3 + (rankCount (nodeAt g (x .node)) + spans k (nodeAt g (x .node) .variables)) =
+      omega (arith, h .count) in z)
+      (kth (h .conditions) k (rw a l)))
+
+-- ---- through the index
+
+pub count-few : (schema p t : List ℕ) (n : ℕ) → Indexed schema p t n → n ≤ 16
+count-few schema p t n w = omega (arith, w .counted, stood (schemaOf schema) p .sound .few)
+
+pub policy-in : (schema p t : List ℕ) (j : ℕ) {n : ℕ} → Indexed schema p t n → j < n → PolicyIn schema p t j
+policy-in schema p t j w h = record { index = w .index; below = omega (arith, w .counted) }
+
+module _ (schema p t : List ℕ) (j : ℕ) (w : PolicyIn schema p t j) where
+  pub policy-few : j < 16
+  policy-few = omega (arith, w .below, stood (schemaOf schema) p .sound .few)
+
+  head-is : getD t (1024 + j) 0 ≡ headOf (policiesOf (schemaOf schema) p) j
+  head-is =
+      ap (λ (l : List ℕ). getD l (1024 + j) 0) (w .index)
+      ∙ index-head (schemaOf schema) (policiesOf (schemaOf schema) p) (nodes-few schema) (stood (schemaOf schema) p .sound) j (w .below)
+
+  stretch : Stretch (schemaOf schema) p (getD t (1024 + j) 0) (policyOf schema p j)
+  stretch =
+      subst (λ (h : ℕ). Stretch (schemaOf schema) p h (policyOf schema p j)) (zero-add (headOf (policiesOf (schemaOf schema) p) j) ∙ sym head-is)
+      (stretch-at (stood (schemaOf schema) p .stand) j (w .below))
+
+  pub head-in : getD t (1024 + j) 0 ≤ length p
+  head-in = omega (arith, stretch .inside)
+
+  -- the policy's stretch, as a callee is lent it
+  abbrev lent : List ℕ
+  lent = take (length p - getD t (1024 + j) 0) (drop (getD t (1024 + j) 0) p)
+
+  pub policy-here : PolicyAt (schemaOf schema) lent (policyOf schema p j)
+  policy-here = subst (λ (b : List ℕ). PolicyAt (schemaOf schema) b (policyOf schema p j)) (sym (rest p (getD t (1024 + j) 0))) (stretch .policy)
+
+  module _ (n : ℕ) (below : n < length (schemaOf schema)) where
+    pub row : Place (schemaOf schema) lent n (getD t (64 * j + n) 0) (ruleFor n (policyOf schema p j .rules))
+    row =
+        subst (λ (i : ℕ). Place (schemaOf schema) lent n i (ruleFor n (policyOf schema p j .rules)))
+        (sym (ap (λ (l : List ℕ). getD l (64 * j + n) 0) (w .index)
+        ∙ index-row (schemaOf schema) (policiesOf (schemaOf schema) p) (nodes-few schema) (stood (schemaOf schema) p .sound) j (w .below) n
+        (omega (arith, nodes-few schema))))
+        (place n (policy-here .rules))
+
+  module _ (n k : ℕ) (a : RankIn schema n k) where
+    pub rank-none : getD t (64 * j + n) 0 ≡ 0 → 0 ≡ rankOf (policyOf schema p j) n k
+    unfolding rankOf
+    rank-none e = rank-absent (schemaOf schema) lent n k (row n (a .below)) e
+
+    here : (getD t (64 * j + n) 0 ≡ 0 → ⊥) → Rank (schemaOf schema) lent n k (getD t (64 * j + n) 0) (ruleFor n (policyOf schema p j .rules))
+    here e = rank-present (schemaOf schema) lent n k (row n (a .below)) e (a .rank)
+
+    pub rank-in : (getD t (64 * j + n) 0 ≡ 0 → ⊥) → getD t (64 * j + n) 0 + k < length lent
+    rank-in e = here e .inside
+
+    pub rank-is : {r : ℕ} → (getD t (64 * j + n) 0 ≡ 0 → ⊥) → r ≡ getD lent (getD t (64 * j + n) 0 + k) 0 → r ≡ rankOf (policyOf schema p j) n k
+    unfolding rankOf
+    rank-is e h = h ∙ here e .is
+
+  module _ (n k o : ℕ) (a : NumberIn schema n k o) where
+    pub narrow-none : (r : Range) → getD t (64 * j + n) 0 ≡ 0 → r ≡ narrowBy (conditionsOf (policyOf schema p j) n) k r
+    unfolding conditionsOf
+    narrow-none r e = narrow-absent (schemaOf schema) lent n k r (row n (a .below)) e
+
+    record Bounds : Type 0 where
+      pub inside : getD t (64 * j + n) 0 + o + 8 ≤ length lent
+      pub is : (r : Range) → narrowBy (conditionsOf (policyOf schema p j) n) k r
+          ≡ narrow (range (signed (be 4 lent (getD t (64 * j + n) 0 + o))) (signed (be 4 lent (getD t (64 * j + n) 0 + o + 4)))) r
+
+    bounds : (getD t (64 * j + n) 0 ≡ 0 → ⊥) → Bounds
+    unfolding conditionsOf
+    bounds e =
+        let c = kth-present (schemaOf schema) lent n k (row n (a .below)) e (a .inside) in
+        let i : getD t (64 * j + n) 0 + offsetOf (nodeAt (schemaOf schema) n) k ≡ getD t (64 * j + n) 0 + o = omega (arith, a .at) in
+        let s = subst (λ (z : ℕ). RangeAt lent z (c .what)) i (subst (λ (v : Variable). ConditionAt lent (getD t (64 * j + n) 0 + offsetOf (nodeAt (schemaOf schema) n) k) v (c .what)) (a .is) (c .stands)) in
+        record { inside = s .inside; is = λ r. c .narrows r ∙ ap (λ (y : Condition). narrow y r) (s .is) }
+
+    pub narrow-in : (getD t (64 * j + n) 0 ≡ 0 → ⊥) → getD t (64 * j + n) 0 + o + 8 ≤ length lent
+    narrow-in e = bounds e .inside
+
+    pub narrow-is : (r : Range) {q : Range} → (getD t (64 * j + n) 0 ≡ 0 → ⊥)
+        → q ≡ narrow (range (signed (be 4 lent (getD t (64 * j + n) 0 + o))) (signed (be 4 lent (getD t (64 * j + n) 0 + o + 4)))) r
+        → q ≡ narrowBy (conditionsOf (policyOf schema p j) n) k r
+    narrow-is r e h = h ∙ sym (bounds e .is r)
+
+  module _ (n k o : ℕ) (a : ListedIn schema n k o) where
+    pub sieve-none : (u : ℕ) → getD t (64 * j + n) 0 ≡ 0 → u ≡ sieveBy (conditionsOf (policyOf schema p j) n) k u
+    unfolding conditionsOf
+    sieve-none u e = sieve-absent (schemaOf schema) lent n k u (row n (a .below)) e
+
+    record Bits : Type 0 where
+      pub inside : getD t (64 * j + n) 0 + o + 4 ≤ length lent
+      pub is : (u : ℕ) → sieveBy (conditionsOf (policyOf schema p j) n) k u ≡ bitAnd u (be 4 lent (getD t (64 * j + n) 0 + o))
+
+    bits : (getD t (64 * j + n) 0 ≡ 0 → ⊥) → Bits
+    unfolding conditionsOf sieve
+    bits e =
+        let c = kth-present (schemaOf schema) lent n k (row n (a .below)) e (a .inside) in
+        let i : getD t (64 * j + n) 0 + offsetOf (nodeAt (schemaOf schema) n) k ≡ getD t (64 * j + n) 0 + o = omega (arith, a .at) in
+        let s = subst (λ (z : ℕ). MaskAt lent z (a .size) (c .what)) i (subst (λ (v : Variable). ConditionAt lent (getD t (64 * j + n) 0 + offsetOf (nodeAt (schemaOf schema) n) k) v (c .what)) (a .is) (c .stands)) in
+        record { inside = s .inside; is = λ u. c .sieves u ∙ ap (λ (y : Condition). sieve y u) (s .is) }
+
+    pub sieve-in : (getD t (64 * j + n) 0 ≡ 0 → ⊥) → getD t (64 * j + n) 0 + o + 4 ≤ length lent
+    sieve-in e = bits e .inside
+
+    pub sieve-is : (u : ℕ) {q : ℕ} → (getD t (64 * j + n) 0 ≡ 0 → ⊥) → q ≡ bitAnd u (be 4 lent (getD t (64 * j + n) 0 + o))
+        → q ≡ sieveBy (conditionsOf (policyOf schema p j) n) k u
+    sieve-is u e h = h ∙ sym (bits e .is u)

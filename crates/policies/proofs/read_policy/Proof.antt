@@ -1,0 +1,47 @@
+-- A head that is refused, or the PN after it.
+-- Rests on the laws of a head and what follows it.
+use borrow.Author.Needs.{needs}
+use Rattle.policies.proofs.File.{of-policy}
+use Rattle.policies.proofs.read_policy.Statement.{statement}
+use Rattle.policies.proofs.read_policy.Tie as tie
+
+read-head-requires : tie.Need-read-head-requires
+read-head-requires c κs = search needs
+
+enum-known-number : tie.Need-enum-known-number
+enum-known-number c = search needs
+
+enum-known-n : tie.Need-enum-known-n
+enum-known-n c = search needs
+
+add-index : tie.Need-add-index
+add-index c = search needs
+
+mul-index : tie.Need-mul-index
+mul-index c = search needs
+
+element-write-index : tie.Need-element-write-index
+element-write-index c = search needs
+
+read-rules-requires : tie.Need-read-rules-requires
+read-rules-requires c κs = search needs
+
+returns : tie.Need-returns
+returns c = search of-policy
+
+returns-2 : tie.Need-returns-2
+returns-2 c = search of-policy
+
+pub read-policy-spec : {M : Type 1} → statement M
+read-policy-spec =
+    tie.close
+    (tie.spec
+    read-head-requires
+    enum-known-number
+    enum-known-n
+    add-index
+    mul-index
+    element-write-index
+    read-rules-requires
+    returns
+    returns-2)

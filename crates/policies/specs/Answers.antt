@@ -1,0 +1,72 @@
+-- What the code's answers say of what was read, and of the index that was filled.
+use Prim.Native.Nat.{ℕ, _+_}
+use mathlib.Core.Path.{_≡_}
+use mathlib.Core.List.{List}
+use lib.ListN.{length, replicate}
+use Rattle.fields.specs.Reading.{Got, got, bad}
+use Rattle.fields.specs.declared.Step.{Step}
+use Rattle.fields.specs.declared.Step.the-variants.{Next, Bad}
+use Rattle.schema.specs.Schema.{schemaOf}
+use Rattle.schema.specs.Table.{tableOf}
+use Rattle.policies.specs.Policies.{Rule, Policy, Head, policies, policiesOf}
+use Rattle.policies.specs.Index.{fillPolicies, indexOf}
+use Rattle.policies.specs.declared.HeadRead.{HeadRead}
+use Rattle.policies.specs.declared.HeadRead.the-variants.{Found, NoHead}
+use Rattle.policies.specs.declared.RuleRead.{RuleRead}
+use Rattle.policies.specs.declared.RuleRead.the-variants.{Named, NoRule}
+use Rattle.policies.specs.declared.PoliciesRead.{PoliciesRead}
+use Rattle.policies.specs.declared.PoliciesRead.the-variants.{Policies, Refused}
+
+-- an answer that holds all of what was read, as that
+abbrev pub headIn : HeadRead → Got Head
+headIn (Found first last count q) = got (record { first = first; last = last; count = count }) q
+headIn (NoHead n o) = bad n o
+
+-- the whole file: how many policies
+abbrev pub policiesRead : Got (List Policy) → PoliciesRead
+policiesRead (got ps q) = Policies (length ps)
+policiesRead (bad n o) = Refused n o
+
+-- t is the table of the schema file s, which has so many nodes
+pub record SchemaIn (s t : List ℕ) (count : ℕ) : Type 0 where
+  pub table : t ≡ tableOf (schemaOf s)
+  pub counted : count ≡ length (schemaOf s)
+
+-- an index that holds nothing
+abbrev pub blank : List ℕ
+blank = replicate 1040 0
+
+-- the answer for the file p, and its index; that of a refused file holds nothing
+pub record Told (s p : List ℕ) (r : PoliciesRead) (t : List ℕ) : Type 0 where
+  pub answer : r ≡ policiesRead (policies (schemaOf s) p)
+  pub index : t ≡ indexOf (policiesOf (schemaOf s) p)
+
+-- ---- for the contracts of functions that no other crate calls
+
+-- a PN that began at p: its node and the place of its ranks
+abbrev pub ruleRead : ℕ → Got Rule → RuleRead
+ruleRead p (got x q) = Named (x .node) (p + 3) q
+ruleRead p (bad n o) = NoRule n o
+
+-- what a call that fills the index did: a number and the index, or a refusal, whatever the index then holds
+pub data Run : Type 0 where
+  did : ℕ → List ℕ → Run
+  refused : ℕ → ℕ → Run
+
+abbrev pub outcome : Step → List ℕ → Run
+outcome (Next q) t = did q t
+outcome (Bad n o) t = refused n o
+
+-- the position after what was read, and the index filled with it
+abbrev pub runOf : {A : Type 0} → (A → List ℕ → List ℕ) → Got A → List ℕ → Run
+runOf f (got a q) t = did q (f a t)
+runOf f (bad n o) t = refused n o
+
+abbrev pub fileOutcome : PoliciesRead → List ℕ → Run
+fileOutcome (Policies n) t = did n t
+fileOutcome (Refused n o) t = refused n o
+
+-- the policies from h on, where j policies stand before them
+abbrev pub fileRun : ℕ → ℕ → Got (List Policy) → List ℕ → Run
+fileRun j h (got ps q) t = did (j + length ps) (fillPolicies j h ps t)
+fileRun j h (bad n o) t = refused n o

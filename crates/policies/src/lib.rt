@@ -1,0 +1,637 @@
+// The reader of policies files, and accessors to the policies of an accepted one.
+ghost use mathlib.Core.Path.{_≡_};
+ghost use Prim.Native.Nat.{_+_, _<_, _≤_};
+ghost use lib.ListN.{length, getD, set};
+ghost use lib.Bits.{bitAnd};
+ghost use Rattle.fields.specs.Reading.{be, signed};
+ghost use Rattle.fields.specs.Answers.{stepOf};
+ghost use Rattle.schema.specs.Schema.{schemaOf, nodeAt, variableAt};
+ghost use Rattle.schema.specs.Table.{NodeIn, AtMost};
+ghost use Rattle.policies.specs.Policies.{range, ranks, condition, conditions, ruleOf, rule, rules, head, policy, policies, rankCount, rankOf, conditionsOf, policiesOf};
+ghost use Rattle.policies.specs.Pass.{pass, inForce, positions, Listing};
+ghost use Rattle.policies.specs.Index.{fillRules, fillPolicy, policyOf, Indexed, PolicyIn, RankIn};
+ghost use Rattle.policies.specs.Combine.{narrow, narrowBy, sieveBy, NumberIn, ListedIn};
+ghost use Rattle.policies.specs.Body.{isNumber, mostOf, Laid, Looking, noneOver};
+ghost use Rattle.policies.specs.Answers.{headIn, ruleRead, outcome, runOf, fileOutcome, fileRun, SchemaIn, blank, Told};
+use fields::Field;
+use fields::Step;
+use schema::Variable;
+
+// A policy's head and the position after it, or a breach.
+pub enum HeadRead {
+    Found {
+        first: u32,
+        last: u32,
+        count: u32,
+        next: usize,
+    },
+    NoHead {
+        number: u8,
+        offset: usize,
+    },
+}
+
+// A PN: its node, the place of its ranks and the position after it, or a breach.
+enum RuleRead {
+    Named {
+        node: usize,
+        body: usize,
+        next: usize,
+    },
+    NoRule {
+        number: u8,
+        offset: usize,
+    },
+}
+
+// How many policies a file has, or a breach.
+pub enum PoliciesRead {
+    Policies { count: usize },
+    Refused { number: u8, offset: usize },
+}
+
+// What is left of a number's range.
+pub struct Range {
+    pub lo: i32,
+    pub hi: i32,
+}
+
+// The head of the policy that the slice begins with.
+pub fn read_head(b: &[u8]) -> HeadRead
+    ensures { λ r. ⌜ head (now (b .entry)) ≡ headIn r ⌝ }
+{
+    match fields::read_mark(b, 0, b"PH") {
+        Step::Bad { number, offset } => HeadRead::NoHead { number, offset },
+        Step::Next { at } => match fields::read_u16(b, at) {
+            Field::Cut { number, offset } => HeadRead::NoHead { number, offset },
+            Field::Value {
+                value: first,
+                next: at,
+            } => match fields::read_u16(b, at) {
+                Field::Cut { number, offset } => HeadRead::NoHead { number, offset },
+                Field::Value { value: last, next } => {
+                    if last < first {
+                        return HeadRead::NoHead {
+                            number: 9,
+                            offset: at,
+                        };
+                    }
+                    match fields::read_u8(b, next) {
+                        Field::Cut { number, offset } => HeadRead::NoHead { number, offset },
+                        Field::Value { value: count, next } => HeadRead::Found {
+                            first,
+                            last,
+                            count,
+                            next,
+                        },
+                    }
+                }
+            },
+        },
+    }
+}
+
+// k ranks.
+fn read_ranks(b: &[u8], k: usize, from: usize) -> Step
+    ensures { λ r. ⌜ r ≡ stepOf (ranks (now (b .entry)) k from) ⌝ }
+{
+    let mut left = k;
+    let mut at = from;
+    while 0 < left {
+        match fields::read_u8(b, at) {
+            Field::Cut { number, offset } => {
+                return Step::Bad { number, offset };
+            }
+            Field::Value { value: _, next } => {
+                at = next;
+                left -= 1;
+            }
+        }
+    }
+    Step::Next { at }
+}
+
+// The condition of a variable.
+fn read_condition(b: &[u8], v: Variable, at: usize) -> Step
+    ensures { λ r. ⌜ r ≡ stepOf (condition (now (b .entry)) v at) ⌝ }
+{
+    match fields::read_u32(b, at) {
+        Field::Cut { number, offset } => Step::Bad { number, offset },
+        Field::Value { value, next } => match v {
+            Variable::Number { lo: _, hi: _ } => match fields::read_u32(b, next) {
+                Field::Cut { number, offset } => Step::Bad { number, offset },
+                Field::Value { value: _, next } => Step::Next { at: next },
+            },
+            Variable::Listed { size } => {
+                if numbers::within(value, size) {
+                    return Step::Next { at: next };
+                }
+                Step::Bad {
+                    number: 11,
+                    offset: at,
+                }
+            }
+        },
+    }
+}
+
+// The number of ranks that node n has in a PN.
+pub fn rank_count(schema: &[u8], table: &[usize; 320], n: usize) -> usize
+    requires { ⌜ NodeIn (now schema) (now table) n ⌝ }
+    ensures { λ r. ⌜ AtMost 8 (rankCount (nodeAt (schemaOf (now (schema .entry))) n)) r ⌝ }
+{
+    if schema::kind_of(schema, table, n) == 1 {
+        return schema::successor_count(schema, table, n);
+    }
+    0
+}
+
+// The conditions of node n's variables.
+fn read_conditions(schema: &[u8], table: &[usize; 320], n: usize, b: &[u8], from: usize) -> Step
+    requires { ⌜ NodeIn (now schema) (now table) n ⌝ }
+    ensures { λ r. ⌜ r ≡ stepOf (conditions (now (b .entry)) (nodeAt (schemaOf (now (schema .entry))) n .variables) from) ⌝ }
+{
+    let v = schema::variable_count(schema, table, n);
+    let mut k: usize = 0;
+    let mut at = from;
+    while k < v {
+        let x = schema::variable_of(schema, table, n, k);
+        match read_condition(b, x, at) {
+            Step::Bad { number, offset } => {
+                return Step::Bad { number, offset };
+            }
+            Step::Next { at: next } => {
+                at = next;
+                k += 1;
+            }
+        }
+    }
+    Step::Next { at }
+}
+
+// The ranks and conditions of node n, field by field.
+fn read_fields(schema: &[u8], table: &[usize; 320], n: usize, b: &[u8], from: usize) -> Step
+    requires { ⌜ NodeIn (now schema) (now table) n ⌝ }
+    ensures { λ r. ⌜ r ≡ stepOf (ruleOf (now (b .entry)) (nodeAt (schemaOf (now (schema .entry))) n) n from) ⌝ }
+{
+    let k = rank_count(schema, table, n);
+    match read_ranks(b, k, from) {
+        Step::Bad { number, offset } => Step::Bad { number, offset },
+        Step::Next { at } => match read_conditions(schema, table, n, b, at) {
+            Step::Bad { number, offset } => Step::Bad { number, offset },
+            Step::Next { at } => Step::Next { at },
+        },
+    }
+}
+
+// Whether node n's variable k is a number.
+fn is_number(schema: &[u8], table: &[usize; 320], n: usize, k: usize) -> bool
+    requires { ⌜ NodeIn (now schema) (now table) n ⌝ }
+    requires { ⌜ k < length (nodeAt (schemaOf (now schema)) n .variables) ⌝ }
+    ensures { λ r. ⌜ r ≡ isNumber (variableAt (schemaOf (now (schema .entry))) n k) ⌝ }
+{
+    let at = table[64 + 4 * n + k];
+    schema[at] == 0
+}
+
+// The greatest number that the mask of node n's variable k may spell.
+fn most_of(schema: &[u8], table: &[usize; 320], n: usize, k: usize) -> usize
+    requires { ⌜ NodeIn (now schema) (now table) n ⌝ }
+    requires { ⌜ k < length (nodeAt (schemaOf (now schema)) n .variables) ⌝ }
+    ensures { λ r. ⌜ r ≡ mostOf (variableAt (schemaOf (now (schema .entry))) n k) ⌝ }
+{
+    if is_number(schema, table, n, k) {
+        return 0xffff_ffff;
+    }
+    match schema::variable_of(schema, table, n, k) {
+        Variable::Number { lo: _, hi: _ } => 0xffff_ffff,
+        Variable::Listed { size } => {
+            if size <= 32 {
+                return numbers::all_values(size) as usize;
+            }
+            0xffff_ffff
+        }
+    }
+}
+
+// Two numbers side by side.
+fn put_pair(layout: &mut [usize; 576], at: usize, x: usize, y: usize)
+    requires { ⌜ at + 1 < 576 ⌝ }
+    ensures { λ _. ⌜ now (layout .exit) ≡ set (set (now (layout .entry)) at x) (at + 1) y ⌝ }
+{
+    layout[at] = x;
+    layout[at + 1] = y;
+}
+
+// The layout of node n, after those below it: at n eight times the bytes of its ranks and conditions, and how many
+// variables there are up to the last listed one; from 64 + 8 n on the offset and the greatest number of each condition.
+fn lay_out(schema: &[u8], table: &[usize; 320], n: usize, layout: &mut [usize; 576])
+    requires { ⌜ NodeIn (now schema) (now table) n ⌝ }
+    requires { ⌜ Laid (schemaOf (now schema)) n (now layout) ⌝ }
+    ensures { λ _. ⌜ Laid (schemaOf (now (schema .entry))) (n + 1) (now (layout .exit)) ⌝ }
+{
+    let v = schema::variable_count(schema, table, n);
+    let mut w = rank_count(schema, table, n);
+    let mut f: usize = 0;
+    let mut k: usize = 0;
+    while k < v {
+        let most = most_of(schema, table, n, k);
+        put_pair(layout, 64 + 8 * n + 2 * k, w, most);
+        if is_number(schema, table, n, k) {
+            w += 8;
+            k += 1;
+        } else {
+            w += 4;
+            k += 1;
+            f = k;
+        }
+    }
+    layout[n] = 8 * w + f;
+}
+
+// The layout of all nodes.
+fn layout_of(schema: &[u8], table: &[usize; 320], count: usize) -> [usize; 576]
+    requires { ⌜ SchemaIn (now schema) (now table) count ⌝ }
+    ensures { λ r. ⌜ Laid (schemaOf (now (schema .entry))) count r ⌝ }
+{
+    let mut layout = [0usize; 576];
+    let mut n: usize = 0;
+    while n < count {
+        lay_out(schema, table, n, &mut layout);
+        n += 1;
+    }
+    layout
+}
+
+// Whether no condition of node n up to the last listed one exceeds its greatest number; all of them are there.
+fn none_over(layout: &[usize; 576], n: usize, looks: usize, b: &[u8], from: usize) -> bool
+    requires { ⌜ Looking (now layout) (now b) n looks from ⌝ }
+    ensures { λ r. ⌜ r ≡ noneOver (now (layout .entry)) (now (b .entry)) n from looks ⌝ }
+{
+    let mut k = looks;
+    while 0 < k {
+        k -= 1;
+        let at = layout[64 + 8 * n + 2 * k];
+        let most = layout[64 + 8 * n + 2 * k + 1];
+        if most < (fields::u32_at(b, from + at) as usize) {
+            return false;
+        }
+    }
+    true
+}
+
+// The ranks and conditions of node n: by one test of the length where all is well, else field by field.
+fn read_body(
+    schema: &[u8],
+    table: &[usize; 320],
+    layout: &[usize; 576],
+    n: usize,
+    b: &[u8],
+    from: usize,
+) -> Step
+    requires { ⌜ NodeIn (now schema) (now table) n ⌝ }
+    requires { ⌜ Laid (schemaOf (now schema)) (length (schemaOf (now schema))) (now layout) ⌝ }
+    requires { ⌜ from ≤ length (now b) ⌝ }
+    ensures { λ r. ⌜ r ≡ stepOf (ruleOf (now (b .entry)) (nodeAt (schemaOf (now (schema .entry))) n) n from) ⌝ }
+{
+    let shape = layout[n];
+    if shape / 8 <= b.len() - from {
+        if none_over(layout, n, shape % 8, b, from) {
+            return Step::Next {
+                at: from + shape / 8,
+            };
+        }
+        return read_fields(schema, table, n, b, from);
+    }
+    read_fields(schema, table, n, b, from)
+}
+
+// A PN, of a node not below low.
+fn read_rule(
+    schema: &[u8],
+    table: &[usize; 320],
+    layout: &[usize; 576],
+    count: usize,
+    b: &[u8],
+    low: usize,
+    from: usize,
+) -> RuleRead
+    requires { ⌜ SchemaIn (now schema) (now table) count ⌝ }
+    requires { ⌜ Laid (schemaOf (now schema)) count (now layout) ⌝ }
+    ensures { λ r. ⌜ r ≡ ruleRead from (rule (schemaOf (now (schema .entry))) (now (b .entry)) low from) ⌝ }
+{
+    match fields::read_mark(b, from, b"PN") {
+        Step::Bad { number, offset } => RuleRead::NoRule { number, offset },
+        Step::Next { at } => match fields::read_u8(b, at) {
+            Field::Cut { number, offset } => RuleRead::NoRule { number, offset },
+            Field::Value { value, next: body } => {
+                let node = value as usize;
+                if node < low {
+                    return RuleRead::NoRule {
+                        number: 10,
+                        offset: at,
+                    };
+                }
+                if count <= node {
+                    return RuleRead::NoRule {
+                        number: 10,
+                        offset: at,
+                    };
+                }
+                match read_body(schema, table, layout, node, b, body) {
+                    Step::Bad { number, offset } => RuleRead::NoRule { number, offset },
+                    Step::Next { at: next } => RuleRead::Named { node, body, next },
+                }
+            }
+        },
+    }
+}
+
+// The n PN of policy j, put into the index.
+fn read_rules(
+    schema: &[u8],
+    table: &[usize; 320],
+    layout: &[usize; 576],
+    count: usize,
+    b: &[u8],
+    j: usize,
+    n: u32,
+    from: usize,
+    index: &mut [usize; 1040],
+) -> Step
+    requires { ⌜ SchemaIn (now schema) (now table) count ⌝ }
+    requires { ⌜ Laid (schemaOf (now schema)) count (now layout) ⌝ }
+    requires { ⌜ j < 16 ⌝ }
+    ensures { λ r. ⌜ outcome r (now (index .exit)) ≡ runOf (fillRules j from) (rules (schemaOf (now (schema .entry))) (now (b .entry)) n 0 from) (now (index .entry)) ⌝ }
+{
+    let mut left = n;
+    let mut low: usize = 0;
+    let mut at = from;
+    while 0 < left {
+        match read_rule(schema, table, layout, count, b, low, at) {
+            RuleRead::NoRule { number, offset } => {
+                return Step::Bad { number, offset };
+            }
+            RuleRead::Named { node, body, next } => {
+                index[64 * j + node] = body;
+                low = node + 1;
+                at = next;
+                left -= 1;
+            }
+        }
+    }
+    Step::Next { at }
+}
+
+// Policy j, on its own stretch of the file, from its head on.
+fn read_policy(
+    schema: &[u8],
+    table: &[usize; 320],
+    layout: &[usize; 576],
+    count: usize,
+    b: &[u8],
+    head: usize,
+    j: usize,
+    index: &mut [usize; 1040],
+) -> Step
+    requires { ⌜ SchemaIn (now schema) (now table) count ⌝ }
+    requires { ⌜ Laid (schemaOf (now schema)) count (now layout) ⌝ }
+    requires { ⌜ j < 16 ⌝ }
+    ensures { λ r. ⌜ outcome r (now (index .exit)) ≡ runOf (fillPolicy j head) (policy (schemaOf (now (schema .entry))) (now (b .entry))) (now (index .entry)) ⌝ }
+{
+    match read_head(b) {
+        HeadRead::NoHead { number, offset } => Step::Bad { number, offset },
+        HeadRead::Found {
+            first: _,
+            last: _,
+            count: n,
+            next,
+        } => {
+            index[1024 + j] = head;
+            read_rules(schema, table, layout, count, b, j, n, next, index)
+        }
+    }
+}
+
+// The whole file: checked, and put into the index.
+fn read_file(
+    schema: &[u8],
+    table: &[usize; 320],
+    layout: &[usize; 576],
+    count: usize,
+    p: &[u8],
+    index: &mut [usize; 1040],
+) -> PoliciesRead
+    requires { ⌜ SchemaIn (now schema) (now table) count ⌝ }
+    requires { ⌜ Laid (schemaOf (now schema)) count (now layout) ⌝ }
+    ensures { λ r. ⌜ fileOutcome r (now (index .exit)) ≡ fileRun 0 0 (policies (schemaOf (now (schema .entry))) (now (p .entry))) (now (index .entry)) ⌝ }
+{
+    let mut j: usize = 0;
+    let mut at: usize = 0;
+    while at < p.len() {
+        if j == 16 {
+            return PoliciesRead::Refused {
+                number: 8,
+                offset: at,
+            };
+        }
+        match read_policy(schema, table, layout, count, &p[at..], at, j, index) {
+            Step::Bad { number, offset } => {
+                return PoliciesRead::Refused {
+                    number,
+                    offset: at + offset,
+                };
+            }
+            Step::Next { at: next } => {
+                j += 1;
+                at += next;
+            }
+        }
+    }
+    PoliciesRead::Policies { count: j }
+}
+
+// The whole file: how many policies it has, and the index of their rules; a refusal leaves the index as it was.
+pub fn read_policies(
+    schema: &[u8],
+    table: &[usize; 320],
+    count: usize,
+    p: &[u8],
+    index: &mut [usize; 1040],
+) -> PoliciesRead
+    requires { ⌜ SchemaIn (now schema) (now table) count ⌝ }
+    requires { ⌜ now index ≡ blank ⌝ }
+    ensures { λ r. ⌜ Told (now (schema .entry)) (now (p .entry)) r (now (index .exit)) ⌝ }
+{
+    let layout = layout_of(schema, table, count);
+    match read_file(schema, table, &layout, count, p, index) {
+        PoliciesRead::Policies { count } => PoliciesRead::Policies { count },
+        PoliciesRead::Refused { number, offset } => {
+            *index = [0usize; 1040];
+            PoliciesRead::Refused { number, offset }
+        }
+    }
+}
+
+// Whether a pass may have these days: 12 if not.
+pub fn check_pass(a: u16, b: u16) -> Step
+    ensures { λ r. ⌜ r ≡ stepOf (pass a b) ⌝ }
+{
+    if b < a {
+        return Step::Bad {
+            number: 12,
+            offset: 0,
+        };
+    }
+    if 1 < b - a {
+        return Step::Bad {
+            number: 12,
+            offset: 0,
+        };
+    }
+    Step::Next { at: 0 }
+}
+
+// Whether policy j is in force in the pass from a to b.
+pub fn in_force(schema: &[u8], p: &[u8], index: &[usize; 1040], j: usize, a: u16, b: u16) -> bool
+    requires { ⌜ PolicyIn (now schema) (now p) (now index) j ⌝ }
+    ensures { λ r. ⌜ r ≡ inForce a b (policyOf (now (schema .entry)) (now (p .entry)) j) ⌝ }
+{
+    let head = index[1024 + j];
+    match read_head(&p[head..]) {
+        HeadRead::NoHead {
+            number: _,
+            offset: _,
+        } => false,
+        HeadRead::Found {
+            first,
+            last,
+            count: _,
+            next: _,
+        } => {
+            if (b as u32) < first {
+                return false;
+            }
+            if last < (a as u32) {
+                return false;
+            }
+            true
+        }
+    }
+}
+
+// The positions of the policies in force, in file order; how many there are.
+pub fn list_in_force(
+    schema: &[u8],
+    p: &[u8],
+    index: &[usize; 1040],
+    count: usize,
+    a: u16,
+    b: u16,
+    list: &mut [usize; 16],
+) -> usize
+    requires { ⌜ Indexed (now schema) (now p) (now index) count ⌝ }
+    requires { ⌜ length (now list) ≡ 16 ⌝ }
+    ensures { λ r. ⌜ Listing (positions a b 0 (policiesOf (schemaOf (now (schema .entry))) (now (p .entry)))) (now (list .entry)) (now (list .exit)) r ⌝ }
+{
+    let mut n: usize = 0;
+    let mut j: usize = 0;
+    while j < count {
+        if in_force(schema, p, index, j, a, b) {
+            list[n] = j;
+            n += 1;
+            j += 1;
+        } else {
+            j += 1;
+        }
+    }
+    n
+}
+
+// The byte that stands k further on.
+fn byte_at(b: &[u8], at: usize, k: usize) -> u8
+    requires { ⌜ at + k < length (now b) ⌝ }
+    ensures { λ r. ⌜ r ≡ getD (now (b .entry)) (at + k) 0 ⌝ }
+{
+    b[at + k]
+}
+
+// The rank of node n's successor k in policy j.
+pub fn rank_of(schema: &[u8], p: &[u8], index: &[usize; 1040], j: usize, n: usize, k: usize) -> u8
+    requires { ⌜ PolicyIn (now schema) (now p) (now index) j ⌝ }
+    requires { ⌜ RankIn (now schema) n k ⌝ }
+    ensures { λ r. ⌜ r ≡ rankOf (policyOf (now (schema .entry)) (now (p .entry)) j) n k ⌝ }
+{
+    let at = index[64 * j + n];
+    if at == 0 {
+        return 0;
+    }
+    let head = index[1024 + j];
+    byte_at(&p[head..], at, k)
+}
+
+// A number's condition, on the policy's own stretch of the file.
+fn narrow_at(b: &[u8], at: usize, o: usize, r: Range) -> Range
+    requires { ⌜ at + o + 8 ≤ length (now b) ⌝ }
+    ensures { λ q. ⌜ q ≡ narrow (range (signed (be 4 (now (b .entry)) (at + o))) (signed (be 4 (now (b .entry)) (at + o + 4)))) r ⌝ }
+{
+    let x = fields::i32_at(b, at + o);
+    let y = fields::i32_at(b, at + o + 4);
+    let lo = numbers::greater(r.lo, x);
+    let hi = numbers::lesser(r.hi, y);
+    Range { lo, hi }
+}
+
+// What policy j leaves of the range of node n's variable k, a number, whose condition stands at offset o of the node's PN.
+pub fn narrow(
+    schema: &[u8],
+    p: &[u8],
+    index: &[usize; 1040],
+    j: usize,
+    n: usize,
+    k: usize,
+    o: usize,
+    r: Range,
+) -> Range
+    requires { ⌜ PolicyIn (now schema) (now p) (now index) j ⌝ }
+    requires { ⌜ NumberIn (now schema) n k o ⌝ }
+    ensures { λ q. ⌜ q ≡ narrowBy (conditionsOf (policyOf (now (schema .entry)) (now (p .entry)) j) n) k r ⌝ }
+{
+    let at = index[64 * j + n];
+    if at == 0 {
+        return r;
+    }
+    let head = index[1024 + j];
+    narrow_at(&p[head..], at, o, r)
+}
+
+// A listed variable's condition, on the policy's own stretch of the file.
+fn sieve_at(b: &[u8], at: usize, o: usize, u: u32) -> u32
+    requires { ⌜ at + o + 4 ≤ length (now b) ⌝ }
+    ensures { λ q. ⌜ q ≡ bitAnd u (be 4 (now (b .entry)) (at + o)) ⌝ }
+{
+    u & fields::u32_at(b, at + o)
+}
+
+// What policy j leaves of the mask of node n's variable k, a listed one, whose condition stands at offset o of the node's PN.
+pub fn sieve(
+    schema: &[u8],
+    p: &[u8],
+    index: &[usize; 1040],
+    j: usize,
+    n: usize,
+    k: usize,
+    o: usize,
+    u: u32,
+) -> u32
+    requires { ⌜ PolicyIn (now schema) (now p) (now index) j ⌝ }
+    requires { ⌜ ListedIn (now schema) n k o ⌝ }
+    ensures { λ q. ⌜ q ≡ sieveBy (conditionsOf (policyOf (now (schema .entry)) (now (p .entry)) j) n) k u ⌝ }
+{
+    let at = index[64 * j + n];
+    if at == 0 {
+        return u;
+    }
+    let head = index[1024 + j];
+    sieve_at(&p[head..], at, o, u)
+}
