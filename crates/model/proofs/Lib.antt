@@ -1,0 +1,12 @@
+pub mod Levels
+pub mod Lists
+pub mod Successors
+pub mod Ranks
+pub mod Entries
+pub mod Order
+pub mod Choices
+pub mod Values
+pub mod Reconciler
+pub mod Satisfaction
+pub mod Right
+pub mod Comparing

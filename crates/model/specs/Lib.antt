@@ -1,0 +1,4 @@
+pub mod Satisfaction
+pub mod Order
+pub mod Reconciling
+pub mod Comparing
