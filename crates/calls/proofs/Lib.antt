@@ -1,0 +1,4 @@
+pub mod Accepted
+pub mod Demand3
+pub mod Demand2
+pub mod Cases

@@ -1,0 +1,1 @@
+// What each public call answers and leaves in its buffer; no code.

@@ -1,0 +1,44 @@
+-- Which successor of a node comes first, from their ranks alone (01, 'The order').
+use Prim.Native.Nat.{ℕ, zero, suc, _+_, _*_, _≤_}
+use mathlib.Core.Path.{_≡_}
+use mathlib.Core.Bool.{Bool, true, false, cond, not, _&&_, _||_}
+use mathlib.Core.List.{List, [], _∷_}
+use mathlib.Core.Option.{Option·getD}
+use lib.ListN.{getD}
+use lib.Dec.{eqb, leb}
+use Rattle.model.specs.Satisfaction.{every}
+use Rattle.model.specs.Order.{betterBy}
+use Rattle.model.specs.Reconciling.{best}
+
+-- k numbers from c on
+unfoldable pub countUp : ℕ → ℕ → List ℕ
+countUp zero c = []
+countUp (suc k) c = c ∷ countUp k (c + 1)
+
+-- a table of ranks, eight to a row: a row for each policy in force, in file order, a column for each successor
+abbrev pub rankIn : List ℕ → ℕ → ℕ → ℕ
+rankIn t j k = getD t (8 * j + k) 0
+
+-- the order of two columns by the rows
+unfoldable pub betterIn : List ℕ → ℕ → ℕ → ℕ → Bool
+betterIn t rows p q = betterBy (rankIn t) (countUp rows 0) p q
+
+-- no row has 255 in column k
+unfoldable pub allowedIn : List ℕ → ℕ → ℕ → Bool
+allowedIn t rows k = every (λ (j : ℕ). not (eqb (rankIn t j k) 255)) (countUp rows 0)
+
+-- column k has the byte 1 in a set
+abbrev pub inSet : List ℕ → ℕ → Bool
+inSet set k = eqb (getD set k 0) 1
+
+-- of the first k columns the one that comes first among those in the set that no row forbids; 8 for none
+unfoldable pub firstColumn : List ℕ → ℕ → List ℕ → ℕ → ℕ
+firstColumn t rows set k = Option·getD (best (λ c. inSet set c && allowedIn t rows c) (betterIn t rows) (countUp k 0)) 8
+
+pub record Picked (t : List ℕ) (rows : ℕ) (set : List ℕ) (k r : ℕ) : Type 0 where
+  pub is : r ≡ firstColumn t rows set k
+  pub most : r ≤ 8
+
+-- column k in place of x, 8 for none, where no row forbids k and it is better
+unfoldable pub over : List ℕ → ℕ → ℕ → ℕ → ℕ
+over t rows k x = cond (allowedIn t rows k && (leb 8 x || betterIn t rows k x)) k x

@@ -1,0 +1,84 @@
+// What picks among a node's successors: it takes their ranks and the set of those that can be met, and no bytes.
+ghost use mathlib.Core.Path.{_≡_};
+ghost use Prim.Native.Nat.{ℕ, _+_, _*_, _<_, _≤_};
+ghost use lib.ListN.{length, getD};
+ghost use Rattle.order.specs.Order.{betterIn, allowedIn, over, Picked};
+
+// Whether column p is better than column q.
+fn is_better(ranks: &[u8; 128], rows: usize, p: usize, q: usize) -> bool
+    requires { ⌜ rows ≤ 16 ⌝ }
+    requires { ⌜ p < 8 ⌝ }
+    requires { ⌜ q < 8 ⌝ }
+    ensures { λ r. ⌜ r ≡ betterIn (now (ranks .entry)) rows p q ⌝ }
+{
+    let mut j: usize = 0;
+    while j < rows {
+        let x = ranks[8 * j + p];
+        let y = ranks[8 * j + q];
+        if x < y {
+            return true;
+        }
+        if y < x {
+            return false;
+        }
+        j += 1;
+    }
+    p < q
+}
+
+// Whether no row forbids column k.
+fn is_allowed(ranks: &[u8; 128], rows: usize, k: usize) -> bool
+    requires { ⌜ rows ≤ 16 ⌝ }
+    requires { ⌜ k < 8 ⌝ }
+    ensures { λ r. ⌜ r ≡ allowedIn (now (ranks .entry)) rows k ⌝ }
+{
+    let mut j: usize = 0;
+    while j < rows {
+        if ranks[8 * j + k] == 255 {
+            return false;
+        }
+        j += 1;
+    }
+    true
+}
+
+// Column k in place of x, which is 8 for none, where k may be taken and is better.
+fn better_of(ranks: &[u8; 128], rows: usize, k: usize, x: usize) -> usize
+    requires { ⌜ rows ≤ 16 ⌝ }
+    requires { ⌜ k < 8 ⌝ }
+    requires { ⌜ x ≤ 8 ⌝ }
+    ensures { λ r. ⌜ r ≡ over (now (ranks .entry)) rows k x ⌝ }
+{
+    if x < 8 {
+        if is_better(ranks, rows, k, x) {
+            if is_allowed(ranks, rows, k) {
+                return k;
+            }
+            return x;
+        }
+        return x;
+    }
+    if is_allowed(ranks, rows, k) {
+        return k;
+    }
+    x
+}
+
+// The column that comes first among those in the set that no row forbids, 8 if there is none.
+pub fn pick(ranks: &[u8; 128], rows: usize, columns: usize, set: &[u8; 8]) -> usize
+    requires { ⌜ rows ≤ 16 ⌝ }
+    requires { ⌜ columns ≤ 8 ⌝ }
+    ensures { λ r. ⌜ Picked (now (ranks .entry)) rows (now (set .entry)) columns r ⌝ }
+{
+    let mut x: usize = 8;
+    let mut k: usize = 0;
+    while k < columns {
+        if set[k] == 1 {
+            x = better_of(ranks, rows, k, x);
+            k += 1;
+        } else {
+            k += 1;
+        }
+    }
+    x
+}

@@ -1,0 +1,144 @@
+-- The call: files and pass in turn, then the plan's file placed in the buffer, or 13.
+-- Rests on the readers' contracts, on what the passes leave, and on the model's answer-by-plan.
+use mathlib.Core.Path.{_≡_, refl, ap, ap₂, sym, subst, _∙_}
+use mathlib.Core.Bool.{Bool, true, false, cond}
+use mathlib.Core.List.{List, [], _∷_}
+use mathlib.Core.Option.{Option, none, some}
+use Prim.Native.Nat.{ℕ, zero, suc, _+_, _*_, _≤_, _<_}
+use native.Mathlib.Omega.{arith}
+use borrow.Author.Tests.{eq-eqb, ne-eqb}
+use lib.Dec.{eqb}
+use lib.IntN.{ℤ}
+use lib.ListN.{length, getD, take, replicate, length-replicate, getD-replicate}
+use Rattle.fields.specs.Reading.{Got, got, bad}
+use Rattle.fields.specs.Answers.{stepOf, success, refusal}
+use Rattle.fields.specs.Outcomes.{Outcome, Did, judgedIn, placed, refused}
+use Rattle.fields.specs.declared.Answer.{Answer}
+use Rattle.fields.specs.declared.Step.{Step}
+use Rattle.fields.specs.declared.Step.the-variants.{Next, Bad}
+use Rattle.fields.proofs.Bytes.{Bytes}
+use Rattle.fields.proofs.Reading.{stepped, stopped}
+use Rattle.schema.specs.Schema.{Node, schema, schemaOf, nodeAt}
+use Rattle.schema.specs.Table.{tableOf, Accepted, AtMost}
+use Rattle.schema.proofs.Sound.{Sound}
+use Rattle.schema.proofs.Accepted.{sound, schema-got}
+use Rattle.policies.specs.Policies.{Policy, policies, policiesOf, policiesIn}
+use Rattle.policies.specs.Pass.{pass, forced}
+use Rattle.policies.specs.Index.{indexOf, Indexed}
+use Rattle.policies.specs.Answers.{SchemaIn, Told, policiesRead}
+use Rattle.policies.proofs.Nodes.{nodes-few}
+use Rattle.policies.specs.declared.PoliciesRead.{PoliciesRead}
+use Rattle.policies.specs.declared.PoliciesRead.the-variants.{Policies, Refused}
+use Rattle.instances.specs.Instance.{Entry}
+use Rattle.instances.specs.File.{encode}
+use Rattle.instances.specs.Plan.{planned, planOf}
+use Rattle.instances.specs.Writer.{Wrote}
+use Rattle.instances.proofs.Writer.{written-most, written-is}
+use Rattle.model.specs.Reconciling.{can, plan, reconcile, reconciled, rulesOf}
+use Rattle.model.proofs.Reconciler.{answer-by-plan}
+use Rattle.model.proofs.Right.{lawful}
+use Rattle.order.specs.Order.{inSet}
+use Rattle.calls.specs.Calls.{given, underSchema, reconciling}
+use Rattle.reconciler.specs.Plan.{rulesIn, Planned}
+
+-- ---- the file of a plan
+
+module _ (schema : List ℕ) (choices bits file c : List ℕ) {n : ℕ}
+    (w : Wrote file 0 (encode (schemaOf schema) (planned (schemaOf schema) (planOf (schemaOf schema) choices bits))) c n) where
+  pub write-room : Accepted schema → Bytes schema → 1283 ≤ length file → length c ≡ length file → n ≤ length c
+  write-room a y h e = let z = written-most schema (planOf (schemaOf schema) choices bits) a y w in omega arith
+
+  pub write-did : (out : List ℕ) {r : Answer} {after : List ℕ} → Did (placed (take n c) out) r after
+      → Did (placed (encode (schemaOf schema) (planned (schemaOf schema) (planOf (schemaOf schema) choices bits))) out) r after
+  write-did out {r} {after} k = subst (λ (l : List ℕ). Did (placed l out) r after) (written-is (encode (schemaOf schema) (planned (schemaOf schema) (planOf (schemaOf schema) choices bits))) w) k
+
+-- ---- the tables before the first node
+
+pub planned-none : (s t p : List ℕ) (a b : ℕ) {count : ℕ} → SchemaIn s t count → Planned s p a b count (replicate 64 0) (replicate 64 255) (replicate 256 0)
+planned-none s t p a b {count} e =
+    record {
+      met = λ m x y. absurd (omega (arith, e .counted));
+      choice = λ m x y. absurd (omega (arith, e .counted));
+      values = λ m x y. absurd (omega (arith, e .counted));
+      blank = λ m x. (getD-replicate {A = ℕ} 64 m 0 0 (small m x), getD-replicate {A = ℕ} 64 m 255 0 (small m x));
+      nodes-long = length-replicate {A = ℕ} 64 0;
+      choices-long = length-replicate {A = ℕ} 64 255;
+      bits-long = length-replicate {A = ℕ} 256 0;
+    }
+  where
+    small : (m : ℕ) → m < count → m < 64
+    small m x = omega (arith, e .counted, nodes-few s)
+
+-- ---- the plan's instance is the reconciled one
+
+module _ (s p : List ℕ) (a b : ℕ) (nodes choices bits : List ℕ) (A : Accepted s) (y : Bytes s) (w : Planned s p a b 0 nodes choices bits) where
+  S : Sound (schemaOf s)
+  S = sound s y (A .some)
+
+  root : inSet nodes 0 ≡ can (schemaOf s) (rulesIn s p a b) 0
+  root = w .met 0 (omega arith) (A .some)
+
+  same-plan : (n : ℕ) → n < length (schemaOf s) → can (schemaOf s) (rulesIn s p a b) n ≡ true → plan (schemaOf s) (rulesIn s p a b) n ≡ planOf (schemaOf s) choices bits n
+  unfolding plan planOf
+  same-plan n h t =
+      ap₂ (λ (x : ℕ) (xs : List ℤ). record { node = n; choice = x; values = xs }) (sym (w .choice n (omega arith) h t)) (sym (w .values n (omega arith) h t))
+
+  pub settled : (out : List ℕ) {r : Answer} {after : List ℕ} → getD nodes 0 0 ≡ 1 → Did (placed (encode (schemaOf s) (planned (schemaOf s) (planOf (schemaOf s) choices bits))) out) r after
+      → Did (given (schemaOf s) out (reconciled (schemaOf s) (forced a b (policiesOf (schemaOf s) p)))) r after
+  unfolding given reconciled reconcile
+  settled out {r} {after} e k =
+      let t : can (schemaOf s) (rulesIn s p a b) 0 ≡ true = sym root ∙ eq-eqb (getD nodes 0 0) 1 e in
+      let q = answer-by-plan (schemaOf s) S (rulesIn s p a b) (lawful (schemaOf s) S (forced a b (policiesOf (schemaOf s) p))) t (planOf (schemaOf s) choices bits) same-plan in
+      rw t (subst (λ (i : List Entry). Did (placed (encode (schemaOf s) i) out) r after) (sym q) k)
+
+  pub unsettled : (out : List ℕ) → (getD nodes 0 0 ≡ 1 → ⊥) → Did (given (schemaOf s) out (reconciled (schemaOf s) (forced a b (policiesOf (schemaOf s) p)))) (refusal 13 0 0) out
+  unfolding given reconciled reconcile
+  unsettled out e =
+      let t : can (schemaOf s) (rulesIn s p a b) 0 ≡ false = sym root ∙ ne-eqb (getD nodes 0 0) 1 e in
+      rw t (record { answer = refl; buffer = refl })
+
+-- ---- policies and pass
+
+module _ (s p out : List ℕ) (a b : ℕ) {f : PoliciesRead} {t : List ℕ} (w : Told s p f t) where
+  read-got : {n : ℕ} → f ≡ Policies n → (q : ℕ) × (policies (schemaOf s) p ≡ got (policiesOf (schemaOf s) p) q) × (n ≡ length (policiesOf (schemaOf s) p))
+  unfolding policiesOf
+  read-got {n} e = go (policies (schemaOf s) p) refl
+    where
+      go : (g : Got (List Policy)) → policies (schemaOf s) p ≡ g → (q : ℕ) × (g ≡ got (policiesIn g) q) × (n ≡ length (policiesIn g))
+      go (got ps q) z = (q, refl, let y : Policies n ≡ Policies (length ps) = sym e ∙ w .answer ∙ ap policiesRead z in cc)
+      go (bad m o) z = let y : Policies n ≡ Refused m o = sym e ∙ w .answer ∙ ap policiesRead z in absurd (let k : _≡_ {A = ℕ} 0 1 = cc in omega arith)
+
+  pub policies-refused : {n o : ℕ} → f ≡ Refused n o → Did (underSchema (schemaOf s) p a b out) (refusal n 2 o) out
+  unfolding underSchema judgedIn
+  policies-refused {n} {o} e = rw (go (policies (schemaOf s) p) refl) (record { answer = refl; buffer = refl })
+    where
+      go : (g : Got (List Policy)) → policies (schemaOf s) p ≡ g → g ≡ bad n o
+      go (got ps q) z = let y : Refused n o ≡ Policies (length ps) = sym e ∙ w .answer ∙ ap policiesRead z in absurd (let k : _≡_ {A = ℕ} 0 1 = cc in omega arith)
+      go (bad m i) z = let y : Refused n o ≡ Refused m i = sym e ∙ w .answer ∙ ap policiesRead z in cc
+
+  pub policies-indexed : {n : ℕ} → f ≡ Policies n → Indexed s p t n
+  policies-indexed e = record { index = w .index; counted = read-got e .2 }
+
+  module _ {n : ℕ} (e : f ≡ Policies n) {x : Step} (d : x ≡ stepOf (pass a b)) where
+    pub pass-refused : {m o : ℕ} → x ≡ Bad m o → Did (underSchema (schemaOf s) p a b out) (refusal m 3 o) out
+    unfolding underSchema judgedIn
+    pass-refused h = rw (read-got e .1, stopped (pass a b) d h) (record { answer = refl; buffer = refl })
+
+    pub pass-accepted : {q : ℕ} {r : Answer} {after : List ℕ} → x ≡ Next q
+        → Did (given (schemaOf s) out (reconciled (schemaOf s) (forced a b (policiesOf (schemaOf s) p)))) r after → Did (underSchema (schemaOf s) p a b out) r after
+    unfolding underSchema judgedIn
+    pass-accepted h k = rw (read-got e .1, stepped (pass a b) d h .1) k
+
+-- ---- the schema
+
+module _ (s p out : List ℕ) (a b : ℕ) {x : Step} (e : x ≡ stepOf (schema s)) where
+  pub schema-refused : {n o : ℕ} → x ≡ Bad n o → Did (reconciling s p a b out) (refusal n 1 o) out
+  unfolding reconciling judgedIn
+  schema-refused h = rw (stopped (schema s) e h) (record { answer = refl; buffer = refl })
+
+  pub schema-accepted : {q : ℕ} {r : Answer} {after : List ℕ} → x ≡ Next q → Did (underSchema (schemaOf s) p a b out) r after → Did (reconciling s p a b out) r after
+  unfolding reconciling judgedIn
+  schema-accepted h k = rw (schema-got s e h) k
+
+pub schema-in : (s t : List ℕ) {count : ℕ} → t ≡ tableOf (schemaOf s) → AtMost 64 (length (schemaOf s)) count → SchemaIn s t count
+schema-in s t e m = record { table = e; counted = m .is }

@@ -1,0 +1,104 @@
+-- One node's plan: the least values left, then the successor taken or all successors met.
+-- Rests on the laws of its parts and on the model's step.
+use mathlib.Core.Path.{_≡_, refl, ap, ap₂, sym, subst, _∙_}
+use mathlib.Core.Logic.{_⊎_, inl, inr}
+use mathlib.Core.Bool.{Bool, true, false, cond, _&&_}
+use mathlib.Core.List.{List, [], _∷_}
+use mathlib.Core.Option.{Option, none, some, Option·getD}
+use Prim.Native.Nat.{ℕ, zero, suc, _+_, _-_, _*_, _≤_, _<_}
+use native.Mathlib.Omega.{arith}
+use borrow.Author.Tests.{lt-ltb, le-ltb, eqb-true, eq-eqb}
+use lib.Dec.{eqb, ltb}
+use lib.IntN.{ℤ}
+use lib.ListN.{length, getD}
+use Rattle.fields.proofs.Tests.{and-true, never}
+use Rattle.schema.specs.Schema.{Node, schemaOf, nodeAt}
+use Rattle.schema.specs.Table.{NodeIn, AtMost, SuccessorIs}
+use Rattle.schema.proofs.Accepted.{file-of}
+use Rattle.policies.specs.Policies.{Policy, Condition, rankCount, policiesOf}
+use Rattle.policies.specs.Pass.{forced}
+use Rattle.instances.specs.Instance.{chooses}
+use Rattle.instances.specs.Plan.{valuesFrom}
+use Rattle.model.specs.Satisfaction.{every}
+use Rattle.model.specs.Reconciling.{isSome, leastEach, combined, taken, canStep, rulesOf}
+use Rattle.order.specs.Order.{inSet}
+use Rattle.conditions.specs.Held.{conditionsIn, Combined}
+use Rattle.conditions.specs.declared.Conditions.{Conditions}
+use Rattle.reconciler.specs.Plan.{LeastIn, Columns, columnOf, Chosen, rulesIn, NodePlanned}
+use Rattle.reconciler.specs.declared.Plan.{Plan}
+use Rattle.reconciler.specs.declared.Plan.the-variants.{Unmet, Met, Take}
+
+-- a node that chooses has a rank for each successor
+pub node-columns : (schema table : List ℕ) (n : ℕ) {columns : ℕ} {t : Bool} → NodeIn schema table n → AtMost 8 (length (nodeAt (schemaOf schema) n .successors)) columns
+    → t ≡ chooses (nodeAt (schemaOf schema) n) → t ≡ true → Columns schema n columns
+unfolding chooses rankCount
+node-columns schema table n h m e q =
+    let z = and-true (eqb (nodeAt (schemaOf schema) n .kind) 1) (ltb 0 (length (nodeAt (schemaOf schema) n .successors))) (sym e ∙ q) in
+    record { below = h .below; is = m .is; ranked = m .is ∙ rw (z .0); most = m .most }
+
+module _ (schema table p : List ℕ) (a b n : ℕ) (nodes t₀ t : List ℕ) {c : Conditions} (h : NodeIn schema table n) (C : Combined schema p a b n c) where
+  least-same : leastEach (conditionsIn c 0 (nodeAt (schemaOf schema) n .variables)) ≡ rulesIn schema p a b .least n
+  least-same = ap leastEach (C .holds)
+
+  unmet : LeastIn (schemaOf schema) n c t₀ t false ⊎ (LeastIn (schemaOf schema) n c t₀ t true)
+      → false ≡ canStep (schemaOf schema) (rulesIn schema p a b) (inSet nodes) n → NodePlanned schema p a b n nodes t₀ t Unmet
+  unmet (inl w) e = record { met = e; choice = λ q. never q; small = omega arith; values = λ q. never q; others = w .others; long = w .long }
+  unmet (inr w) e = record { met = e; choice = λ q. never q; small = omega arith; values = λ q. never q; others = w .others; long = w .long }
+
+  -- no value left
+  pub node-empty : {r : Bool} → LeastIn (schemaOf schema) n c t₀ t r → r ≡ false → NodePlanned schema p a b n nodes t₀ t Unmet
+  unfolding canStep
+  node-empty {r} w e =
+      let v : LeastIn (schemaOf schema) n c t₀ t false = subst (LeastIn (schemaOf schema) n c t₀ t) e w in
+      let z : isSome (rulesIn schema p a b .least n) ≡ false = sym (ap isSome least-same) ∙ sym (v .found) in
+      unmet (inl v) (rw z)
+
+  module _ {r : Bool} (w : LeastIn (schemaOf schema) n c t₀ t r) (e : r ≡ true) where
+    held : LeastIn (schemaOf schema) n c t₀ t true
+    held = subst (LeastIn (schemaOf schema) n c t₀ t) e w
+
+    left : isSome (rulesIn schema p a b .least n) ≡ true
+    left = sym (ap isSome least-same) ∙ sym (held .found)
+
+    values-are : valuesFrom (nodeAt (schemaOf schema) n .variables) t (4 * n) ≡ Option·getD (rulesIn schema p a b .least n) []
+    values-are = sym (ap (λ (o : Option (List ℤ)). Option·getD o []) (sym least-same ∙ held .values refl))
+
+    module _ {q : Bool} (i : q ≡ chooses (nodeAt (schemaOf schema) n)) where
+      pub node-take : {k s : ℕ} → q ≡ true → Chosen schema p a b n nodes k → k < 8 → SuccessorIs (schemaOf schema) n k s → NodePlanned schema p a b n nodes t₀ t (Take s)
+      unfolding canStep columnOf
+      node-take {k} {s} y d l x =
+          let f = file-of schema (let z = h .below in omega arith) in
+          let o : taken (schemaOf schema) (rulesIn schema p a b) (inSet nodes) n ≡ some s = sym (d .is) ∙ rw (lt-ltb k 8 l) (ap {B = Option ℕ} some (sym (x .is))) in
+          let u : chooses (nodeAt (schemaOf schema) n) ≡ true = sym i ∙ y in
+          record {
+            met = rw (left, u, o);
+            choice = λ _. rw (u, o);
+            small = omega (arith, x .below, f .few);
+            values = λ _. values-are;
+            others = held .others;
+            long = held .long;
+          }
+
+      pub node-none : {k : ℕ} → q ≡ true → Chosen schema p a b n nodes k → 8 ≤ k → NodePlanned schema p a b n nodes t₀ t Unmet
+      unfolding canStep columnOf
+      node-none {k} y d l =
+          let o : taken (schemaOf schema) (rulesIn schema p a b) (inSet nodes) n ≡ none = sym (d .is) ∙ rw (le-ltb k 8 l) in
+          let u : chooses (nodeAt (schemaOf schema) n) ≡ true = sym i ∙ y in
+          unmet (inr held) (rw (left, u, o))
+
+      pub node-met : {v : Bool} → q ≡ false → v ≡ every (inSet nodes) (nodeAt (schemaOf schema) n .successors) → v ≡ true → NodePlanned schema p a b n nodes t₀ t Met
+      unfolding canStep
+      node-met y d l =
+          let u : chooses (nodeAt (schemaOf schema) n) ≡ false = sym i ∙ y in
+          let z : every (inSet nodes) (nodeAt (schemaOf schema) n .successors) ≡ true = sym d ∙ l in
+          record { met = rw (left, u, z); choice = λ _. rw u; small = omega arith; values = λ _. values-are; others = held .others; long = held .long }
+
+      pub node-some-unmet : {v : Bool} → q ≡ false → v ≡ every (inSet nodes) (nodeAt (schemaOf schema) n .successors) → v ≡ false → NodePlanned schema p a b n nodes t₀ t Unmet
+      unfolding canStep
+      node-some-unmet y d l =
+          let u : chooses (nodeAt (schemaOf schema) n) ≡ false = sym i ∙ y in
+          let z : every (inSet nodes) (nodeAt (schemaOf schema) n .successors) ≡ false = sym d ∙ l in
+          unmet (inr held) (rw (left, u, z))
+
+pub chosen-inside : (schema p : List ℕ) (a b n : ℕ) (nodes : List ℕ) (k : ℕ) → Chosen schema p a b n nodes k → k < 8 → k < length (nodeAt (schemaOf schema) n .successors)
+chosen-inside schema p a b n nodes k d h = d .inside h

@@ -1,0 +1,189 @@
+-- The least values left at a node: each variable's own, found one after the other; the first without one ends it.
+-- Rests on the model's `least`, and on bits that are read back as the value.
+use mathlib.Core.Path.{_≡_, refl, ap, ap₂, sym, subst, _∙_}
+use mathlib.Core.Logic.{_⊎_, inl, inr}
+use mathlib.Core.Bool.{Bool, true, false, cond}
+use mathlib.Core.List.{List, [], _∷_}
+use mathlib.Core.Option.{Option, none, some}
+use Prim.Native.Nat.{ℕ, zero, suc, _+_, _-_, _*_, _^_, _≤_, _<_}
+use native.Mathlib.Omega.{arith}
+use native.Mathlib.Nat.{add-zero, zero-add}
+use native.Mathlib.Numerals.{add-one}
+use native.Mathlib.Decide.{decLt}
+use borrow.Author.Tests.{eq-eqb, ne-eqb}
+use lib.Dec.{eqb}
+use lib.Count.{trailingZeros}
+use lib.ListN.{length, getD, set, drop, length-set}
+use lib.Seq.{getD-set-same, getD-set-other}
+use lib.IntN.{ℤ, pos}
+use lib.Signed.{leZ, mag}
+use mir.Syntax.{w32}
+use mir.Val.{toZ, ofZ, SFits}
+use mir.ValLaws.{toZ-ofZ}
+use Rattle.fields.specs.Reading.{signed}
+use Rattle.fields.proofs.Tests.{never}
+use Rattle.numbers.specs.Lowest.{Lowest}
+use Rattle.schema.specs.Schema.{Node, schemaOf, nodeAt, noVariable, isNumber}
+use Rattle.schema.specs.Table.{NodeIn, AtMost}
+use Rattle.schema.specs.declared.Variable.{Variable}
+use Rattle.schema.specs.declared.Variable.the-variants.{Number, Listed}
+use Rattle.schema.proofs.Access.{node-small}
+use Rattle.policies.specs.Policies.{Condition, range, mask}
+use Rattle.instances.specs.File.{valueOf}
+use Rattle.instances.specs.Plan.{valuesFrom}
+use Rattle.model.specs.Reconciling.{isSome, least, leastEach, withFirst}
+use Rattle.conditions.specs.Held.{conditionIn, conditionsIn}
+use Rattle.conditions.specs.declared.Conditions.{Conditions}
+use Rattle.reconciler.specs.Plan.{leftIn, LeftIs, LeastIn}
+use Rattle.reconciler.specs.declared.Left.{Left}
+use Rattle.reconciler.specs.declared.Left.the-variants.{Value, Nothing}
+
+-- ---- one place
+
+module _ (c : Conditions) (k : ℕ) {number : Bool} where
+  pub left-number : {u : ℕ} → number ≡ true → mag (getD (c .lo) k (pos 0)) < 2 ^ 31 → mag (getD (c .hi) k (pos 0)) < 2 ^ 31
+      → leZ (toZ w32 (ofZ w32 (getD (c .lo) k (pos 0)))) (toZ w32 (ofZ w32 (getD (c .hi) k (pos 0)))) ≡ true
+      → u ≡ ofZ w32 (toZ w32 (ofZ w32 (getD (c .lo) k (pos 0)))) → LeftIs c k number (Value u)
+  unfolding leftIn
+  left-number {u} n fl fh t e =
+      let a = toZ-ofZ w32 (getD (c .lo) k (pos 0)) (record { sfits = fl }) in
+      let b = toZ-ofZ w32 (getD (c .hi) k (pos 0)) (record { sfits = fh }) in
+      let z : leZ (getD (c .lo) k (pos 0)) (getD (c .hi) k (pos 0)) ≡ true = sym (ap₂ leZ a b) ∙ t in
+      record { is = rw (n, z) (ap Value (e ∙ ap (ofZ w32) a)); back = λ _. a }
+
+  pub left-none : number ≡ true → mag (getD (c .lo) k (pos 0)) < 2 ^ 31 → mag (getD (c .hi) k (pos 0)) < 2 ^ 31
+      → leZ (toZ w32 (ofZ w32 (getD (c .lo) k (pos 0)))) (toZ w32 (ofZ w32 (getD (c .hi) k (pos 0)))) ≡ false → LeftIs c k number Nothing
+  unfolding leftIn
+  left-none n fl fh t =
+      let a = toZ-ofZ w32 (getD (c .lo) k (pos 0)) (record { sfits = fl }) in
+      let b = toZ-ofZ w32 (getD (c .hi) k (pos 0)) (record { sfits = fh }) in
+      let z : leZ (getD (c .lo) k (pos 0)) (getD (c .hi) k (pos 0)) ≡ false = sym (ap₂ leZ a b) ∙ t in
+      record { is = rw (n, z); back = λ _. a }
+
+  pub left-empty : number ≡ false → getD (c .mask) k 0 ≡ 0 → LeftIs c k number Nothing
+  unfolding leftIn
+  left-empty n e = record { is = rw (n, eq-eqb (getD (c .mask) k 0) 0 e); back = λ t. never (sym n ∙ t) }
+
+  pub left-mask : {r : ℕ} → number ≡ false → (getD (c .mask) k 0 ≡ 0 → ⊥) → Lowest 32 (getD (c .mask) k 0) r → LeftIs c k number (Value r)
+  unfolding leftIn
+  left-mask n e l = record { is = rw (n, ne-eqb (getD (c .mask) k 0) 0 e) (ap Value (l .is)); back = λ t. never (sym n ∙ t) }
+
+-- what it says of the model's least value
+module _ (c : Conditions) (v : Variable) (k : ℕ) {number : Bool} {r : Left} where
+  value-is : number ≡ isNumber v → LeftIs c k number r → {u : ℕ} → r ≡ Value u → least (conditionIn c v k) ≡ some (valueOf v u)
+  unfolding leftIn least conditionIn valueOf
+  value-is n w {u} e = go v n
+    where
+      go : (v : Variable) → number ≡ isNumber v → least (conditionIn c v k) ≡ some (valueOf v u)
+      go (Number lo hi) n =
+          let z : cond (leZ (getD (c .lo) k (pos 0)) (getD (c .hi) k (pos 0))) (Value (ofZ w32 (getD (c .lo) k (pos 0)))) Nothing ≡ Value u = sym (ap (leftIn c k) n) ∙ sym (w .is) ∙ e in
+          test (leZ (getD (c .lo) k (pos 0)) (getD (c .hi) k (pos 0))) z (w .back n)
+        where
+          test : (t : Bool) → cond t (Value (ofZ w32 (getD (c .lo) k (pos 0)))) Nothing ≡ Value u → signed (ofZ w32 (getD (c .lo) k (pos 0))) ≡ getD (c .lo) k (pos 0)
+              → cond t (some (getD (c .lo) k (pos 0))) none ≡ some (signed u)
+          test true z b = let y : ofZ w32 (getD (c .lo) k (pos 0)) ≡ u = cc in ap {B = Option ℤ} some (sym b ∙ ap signed y)
+          test false z b = absurd (let y : _≡_ {A = ℕ} 0 1 = cc in omega arith)
+      go (Listed size) n =
+          let z : cond (eqb (getD (c .mask) k 0) 0) Nothing (Value (trailingZeros 32 (getD (c .mask) k 0))) ≡ Value u = sym (ap (leftIn c k) n) ∙ sym (w .is) ∙ e in
+          test (eqb (getD (c .mask) k 0) 0) z
+        where
+          test : (t : Bool) → cond t Nothing (Value (trailingZeros 32 (getD (c .mask) k 0))) ≡ Value u
+              → cond t none (some (pos (trailingZeros 32 (getD (c .mask) k 0)))) ≡ some (pos u)
+          test true z = absurd (let y : _≡_ {A = ℕ} 0 1 = cc in omega arith)
+          test false z = let y : trailingZeros 32 (getD (c .mask) k 0) ≡ u = cc in ap {B = Option ℤ} (λ (x : ℕ). some (pos x)) y
+
+  nothing-is : number ≡ isNumber v → LeftIs c k number r → r ≡ Nothing → least (conditionIn c v k) ≡ none
+  unfolding leftIn least conditionIn
+  nothing-is n w e = go v n
+    where
+      go : (v : Variable) → number ≡ isNumber v → least (conditionIn c v k) ≡ none
+      go (Number lo hi) n = test (leZ (getD (c .lo) k (pos 0)) (getD (c .hi) k (pos 0))) (sym (ap (leftIn c k) n) ∙ sym (w .is) ∙ e)
+        where
+          test : (t : Bool) → cond t (Value (ofZ w32 (getD (c .lo) k (pos 0)))) Nothing ≡ Nothing → cond t (some (getD (c .lo) k (pos 0))) none ≡ none
+          test true z = absurd (let y : _≡_ {A = ℕ} 0 1 = cc in omega arith)
+          test false z = refl
+      go (Listed size) n = test (eqb (getD (c .mask) k 0) 0) (sym (ap (leftIn c k) n) ∙ sym (w .is) ∙ e)
+        where
+          test : (t : Bool) → cond t Nothing (Value (trailingZeros 32 (getD (c .mask) k 0))) ≡ Nothing
+              → cond t none (some (pos (trailingZeros 32 (getD (c .mask) k 0)))) ≡ none
+          test true z = refl
+          test false z = absurd (let y : _≡_ {A = ℕ} 0 1 = cc in omega arith)
+
+-- ---- a node's variables
+
+each-none : (c : Conditions) (j : ℕ) (vs : List Variable) (k : ℕ) → k < length vs → least (conditionIn c (getD vs k noVariable) (j + k)) ≡ none → leastEach (conditionsIn c j vs) ≡ none
+unfolding leastEach conditionsIn
+each-none c j [] k h e = absurd (omega arith)
+each-none c j (v ∷ vs) zero h e = let z : least (conditionIn c v j) ≡ none = ap (λ (i : ℕ). least (conditionIn c v i)) (sym (add-zero j)) ∙ e in rw z
+each-none c j (v ∷ vs) (suc k) h e =
+    let i : j + suc k ≡ j + 1 + k = omega arith in
+    let z : leastEach (conditionsIn c (j + 1) vs) ≡ none = each-none c (j + 1) vs k (omega arith) (ap (λ (i : ℕ). least (conditionIn c (getD vs k noVariable) i)) (sym i) ∙ e) in
+    rw z (go (least (conditionIn c v j)))
+  where
+    go : (o : Option ℤ) → withFirst o none ≡ none
+    go none = refl
+    go (some x) = refl
+
+each-some : (c : Conditions) (j : ℕ) (vs : List Variable) (t : List ℕ) (b : ℕ)
+    → ((k : ℕ) → k < length vs → least (conditionIn c (getD vs k noVariable) (j + k)) ≡ some (valueOf (getD vs k noVariable) (getD t (b + k) 0)))
+    → leastEach (conditionsIn c j vs) ≡ some (valuesFrom vs t b)
+unfolding leastEach conditionsIn valuesFrom
+each-some c j [] t b f = refl
+each-some c j (v ∷ vs) t b f =
+    let x : least (conditionIn c v j) ≡ some (valueOf v (getD t b 0)) =
+    ap (λ (i : ℕ). least (conditionIn c v i)) (sym (add-zero j)) ∙ f 0 (omega arith) ∙ ap {B = Option ℤ} (λ (i : ℕ). some (valueOf v (getD t i 0))) (add-zero b) in
+    let y = each-some c (j + 1) vs t (b + 1) (λ k h.
+    ap (λ (i : ℕ). least (conditionIn c (getD vs k noVariable) i)) (let z : j + 1 + k ≡ j + suc k = omega arith in z)
+    ∙ f (suc k) (omega arith)
+    ∙ ap {B = Option ℤ} (λ (i : ℕ). some (valueOf (getD vs k noVariable) (getD t i 0))) (let z : b + suc k ≡ b + 1 + k = omega arith in z)) in
+    rw (x, y)
+
+pub record Finding (g : List Node) (n : ℕ) (c : Conditions) (t₀ : List ℕ) (k : ℕ) (t : List ℕ) : Type 0 where
+  pub upto : k ≤ length (nodeAt g n .variables)
+  pub so-far : (i : ℕ) → i < k → least (conditionIn c (getD (nodeAt g n .variables) i noVariable) i) ≡ some (valueOf (getD (nodeAt g n .variables) i noVariable) (getD t (4 * n + i) 0))
+  pub others : (i : ℕ) → (i < 4 * n) ⊎ (4 * n + 4 ≤ i) → getD t i 0 ≡ getD t₀ i 0
+  pub long : length t ≡ length t₀
+
+pub finding-none : (g : List Node) (n : ℕ) (c : Conditions) (t : List ℕ) → Finding g n c t 0 t
+finding-none g n c t = record { upto = omega arith; so-far = λ i h. absurd (omega arith); others = λ i h. refl; long = refl }
+
+module _ (s table : List ℕ) (n : ℕ) (c : Conditions) (t₀ : List ℕ) (k : ℕ) (t : List ℕ) {v : ℕ} {b : Bool} {r : Left} (w : Finding (schemaOf s) n c t₀ k t) (h : NodeIn s table n)
+    (m : AtMost 4 (length (nodeAt (schemaOf s) n .variables)) v) (l : k < v) (e : b ≡ isNumber (getD (nodeAt (schemaOf s) n .variables) k noVariable)) (d : LeftIs c k b r) where
+  pub finding-stop : r ≡ Nothing → LeastIn (schemaOf s) n c t₀ t false
+  finding-stop z =
+      let q = each-none c 0 (nodeAt (schemaOf s) n .variables) k (omega (arith, m .is))
+      (ap (λ (i : ℕ). least (conditionIn c (getD (nodeAt (schemaOf s) n .variables) k noVariable) i)) (zero-add k) ∙ nothing-is c (getD (nodeAt (schemaOf s) n .variables) k noVariable) k e d z) in
+      record { found = sym (ap isSome q); values = λ y. never y; others = w .others; long = w .long }
+
+  pub finding-more : {u : ℕ} → r ≡ Value u → length t₀ ≡ 256 → Finding (schemaOf s) n c t₀ (k + 1) (set t (4 * n + k) u)
+  finding-more {u} z y =
+      let p = node-small s table n h in
+      let q = m .most in
+      record {
+        upto = omega (arith, m .is);
+        so-far = λ i a. one i a (decLt i k);
+        others = λ i a. getD-set-other t (4 * n + k) i u 0 (λ x. apart i a x) ∙ w .others i a;
+        long = length-set t (4 * n + k) u ∙ w .long;
+      }
+    where
+      apart : (i : ℕ) → (i < 4 * n) ⊎ (4 * n + 4 ≤ i) → i ≡ 4 * n + k → ⊥
+      apart i (inl a) x = omega arith
+      apart i (inr a) x = let q = m .most in omega arith
+
+      one : (i : ℕ) → i < k + 1 → Dec (i < k)
+          → least (conditionIn c (getD (nodeAt (schemaOf s) n .variables) i noVariable) i) ≡ some (valueOf (getD (nodeAt (schemaOf s) n .variables) i noVariable) (getD (set t (4 * n + k) u) (4 * n + i) 0))
+      one i a (yes x) =
+          w .so-far i x ∙ ap {B = Option ℤ} (λ (j : ℕ). some (valueOf (getD (nodeAt (schemaOf s) n .variables) i noVariable) j)) (sym (getD-set-other t (4 * n + k) (4 * n + i) u 0 (λ y. omega arith)))
+      one i a (no x) =
+          let j : i ≡ k = omega arith in
+          let p = node-small s table n h in
+          let q = m .most in
+          rw j (value-is c (getD (nodeAt (schemaOf s) n .variables) k noVariable) k e d z
+          ∙ ap {B = Option ℤ} (λ (j : ℕ). some (valueOf (getD (nodeAt (schemaOf s) n .variables) k noVariable) j)) (sym (getD-set-same t (4 * n + k) u 0 (omega (arith, w .long)))))
+
+pub finding-done : (s : List ℕ) (n : ℕ) (c : Conditions) (t₀ : List ℕ) (k : ℕ) (t : List ℕ) {v : ℕ} → Finding (schemaOf s) n c t₀ k t → AtMost 4 (length (nodeAt (schemaOf s) n .variables)) v → v ≤ k
+    → LeastIn (schemaOf s) n c t₀ t true
+finding-done s n c t₀ k t w m l =
+    let q = each-some c 0 (nodeAt (schemaOf s) n .variables) t (4 * n)
+    (λ i h. ap (λ (j : ℕ). least (conditionIn c (getD (nodeAt (schemaOf s) n .variables) i noVariable) j)) (zero-add i) ∙ w .so-far i (omega (arith, m .is))) in
+    record { found = sym (ap isSome q); values = λ _. q; others = w .others; long = w .long }

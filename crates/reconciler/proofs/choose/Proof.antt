@@ -1,0 +1,21 @@
+-- The ranks and the set are filled, and the order picks.
+-- Rests on chosen-is.
+use Rattle.reconciler.proofs.Picking.{chosen-is}
+use borrow.Author.Needs.{needs}
+use Rattle.reconciler.proofs.choose.Statement.{statement}
+use Rattle.reconciler.proofs.choose.Tie as tie
+
+gather-requires : tie.Need-gather-requires
+gather-requires c κs = (search needs, (search needs, (search needs, search needs)))
+
+fill-set-requires : tie.Need-fill-set-requires
+fill-set-requires c κs = search needs
+
+pick-requires : tie.Need-pick-requires
+pick-requires c κs = search needs
+
+returns : tie.Need-returns
+returns c = search chosen-is
+
+pub choose-spec : {M : Type 1} → statement M
+choose-spec = tie.close (tie.spec gather-requires fill-set-requires pick-requires returns)

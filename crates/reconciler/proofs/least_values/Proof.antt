@@ -1,0 +1,83 @@
+-- Each variable passed has its least value at its place.
+-- Rests on the laws of the loop, in Values.
+use Prim.Native.Nat.{_-_}
+use native.Mathlib.Omega.{arith}
+use Rattle.schema.specs.Schema.{schemaOf}
+use Rattle.schema.proofs.Access.{node-small}
+use Rattle.reconciler.proofs.Values.{Finding, finding-none, finding-stop, finding-more, finding-done}
+use borrow.Author.Needs.{needs}
+use Rattle.reconciler.proofs.least_values.Statement.{statement}
+use Rattle.reconciler.proofs.least_values.Tie as tie
+
+abbrev Inv-loop : tie.InvT-loop
+Inv-loop schema table n c bits₀ v k₀ bits k = Finding (schemaOf schema) n c bits₀ k bits
+
+abbrev μ-loop : tie.MeasureT-loop
+μ-loop schema table n c bits₀ v k₀ bits k = v - k
+
+variable-count-requires : tie.Need-variable-count-requires Inv-loop μ-loop
+variable-count-requires c κs = search needs
+
+loop-holds : tie.Need-loop-holds Inv-loop μ-loop
+loop-holds c = search finding-none
+
+is-number-requires : tie.Need-is-number-requires Inv-loop μ-loop
+is-number-requires c κs = search needs
+
+left-in-requires : tie.Need-left-in-requires Inv-loop μ-loop
+left-in-requires c κs = search needs
+
+enum-told : tie.Need-enum-told Inv-loop μ-loop
+enum-told c = search needs
+
+returns : tie.Need-returns Inv-loop μ-loop
+returns c = search finding-stop
+
+enum-known-u : tie.Need-enum-known-u Inv-loop μ-loop
+enum-known-u c = search needs
+
+mul-bits : tie.Need-mul-bits Inv-loop μ-loop
+mul-bits c = omega (arith, node-small)
+
+add-bits : tie.Need-add-bits Inv-loop μ-loop
+add-bits c = omega (arith, node-small)
+
+mul-bits-2 : tie.Need-mul-bits-2 Inv-loop μ-loop
+mul-bits-2 c = omega (arith, node-small)
+
+element-write-bits : tie.Need-element-write-bits Inv-loop μ-loop
+element-write-bits c = omega (arith, node-small)
+
+add-k : tie.Need-add-k Inv-loop μ-loop
+add-k c = search needs
+
+loop-less : tie.Need-loop-less Inv-loop μ-loop
+loop-less c = search needs
+
+loop-again : tie.Need-loop-again Inv-loop μ-loop
+loop-again c = search finding-more
+
+returns-2 : tie.Need-returns-2 Inv-loop μ-loop
+returns-2 c = search finding-done
+
+pub least-values-spec : {M : Type 1} → statement M
+least-values-spec =
+    tie.close
+    (tie.spec
+    Inv-loop
+    μ-loop
+    variable-count-requires
+    loop-holds
+    is-number-requires
+    left-in-requires
+    enum-told
+    returns
+    enum-known-u
+    mul-bits
+    add-bits
+    mul-bits-2
+    element-write-bits
+    add-k
+    loop-less
+    loop-again
+    returns-2)

@@ -1,0 +1,89 @@
+-- The tables tell of each node from here on.
+-- Rests on the laws of one turn, in Passes.
+use Prim.Native.Nat.{_≤_}
+use Rattle.reconciler.specs.Plan.{Planned}
+use Rattle.reconciler.proofs.Passes.{node-in, pass-place, pass-unmet, pass-met, pass-take, pass-small, pass-done}
+use borrow.Author.Needs.{needs}
+use Rattle.reconciler.proofs.plan_all.Statement.{statement}
+use Rattle.reconciler.proofs.plan_all.Tie as tie
+
+abbrev Inv-loop : tie.InvT-loop
+Inv-loop schema table count p index list rows a b nodes₀ choices₀ bits₀ n₀ nodes choices bits n = Planned schema p a b n nodes choices bits × (n ≤ count)
+
+abbrev μ-loop : tie.MeasureT-loop
+μ-loop schema table count p index list rows a b nodes₀ choices₀ bits₀ n₀ nodes choices bits n = n
+
+loop-holds : tie.Need-loop-holds Inv-loop μ-loop
+loop-holds c = (search needs, search needs)
+
+sub-n : tie.Need-sub-n Inv-loop μ-loop
+sub-n c = search needs
+
+plan-node-requires : tie.Need-plan-node-requires Inv-loop μ-loop
+plan-node-requires c κs = (search node-in, (search needs, (search needs, search needs)))
+
+enum-told : tie.Need-enum-told Inv-loop μ-loop
+enum-told c = search needs
+
+loop-less : tie.Need-loop-less Inv-loop μ-loop
+loop-less c = search needs
+
+loop-again : tie.Need-loop-again Inv-loop μ-loop
+loop-again c = (pass-unmet _ _ _ _ _ _ _ _ _ _ (c .before .before .before .before .before .before .before .before .shared-slice-known .given) (c .before .before .before .before .before .before .before .before .before .pre .0) (c .before .before .before .before .before .before .loop .inv .0) (c .before .before .before .before .before .loop-test .taken) (c .before .before .before .before .before .before .loop .inv .1) (c .before .before .plan-node .ensures) (c .enum-told .given .1), search needs)
+
+enum-told-2 : tie.Need-enum-told-2 Inv-loop μ-loop
+enum-told-2 c = search needs
+
+element-write-nodes : tie.Need-element-write-nodes Inv-loop μ-loop
+element-write-nodes c = search pass-place
+
+loop-less-2 : tie.Need-loop-less-2 Inv-loop μ-loop
+loop-less-2 c = search needs
+
+loop-again-2 : tie.Need-loop-again-2 Inv-loop μ-loop
+loop-again-2 c = (pass-met _ _ _ _ _ _ _ _ _ _ (c .before .before .before .before .before .before .before .before .shared-slice-known .given) (c .before .before .before .before .before .before .before .before .before .pre .0) (c .before .before .before .before .before .before .loop .inv .0) (c .before .before .before .before .before .loop-test .taken) (c .before .before .before .before .before .before .loop .inv .1) (c .before .before .plan-node .ensures) (c .enum-told2 .given .1), search needs)
+
+enum-known-successor : tie.Need-enum-known-successor Inv-loop μ-loop
+enum-known-successor c = search needs
+
+cast-choices : tie.Need-cast-choices Inv-loop μ-loop
+cast-choices c = record { fits = pass-small _ _ _ _ _ _ _ _ _ _ (c .before .before .before .before .before .before .before .before .before .shared-slice-known .given) (c .before .before .before .before .before .before .before .before .before .before .pre .0) (c .before .before .before .before .before .before .before .loop .inv .0) (c .before .before .before .before .before .before .loop-test .taken) (c .before .before .before .before .before .before .before .loop .inv .1) (c .before .before .before .plan-node .ensures) (c .before .successor .given .1) }
+
+element-write-choices : tie.Need-element-write-choices Inv-loop μ-loop
+element-write-choices c = search pass-place
+
+element-write-nodes-2 : tie.Need-element-write-nodes-2 Inv-loop μ-loop
+element-write-nodes-2 c = search pass-place
+
+loop-less-3 : tie.Need-loop-less-3 Inv-loop μ-loop
+loop-less-3 c = search needs
+
+loop-again-3 : tie.Need-loop-again-3 Inv-loop μ-loop
+loop-again-3 c = (search pass-take, search needs)
+
+returns : tie.Need-returns Inv-loop μ-loop
+returns c = search pass-done
+
+pub plan-all-spec : {M : Type 1} → statement M
+plan-all-spec =
+    tie.close
+    (tie.spec
+    Inv-loop
+    μ-loop
+    loop-holds
+    sub-n
+    plan-node-requires
+    enum-told
+    loop-less
+    loop-again
+    enum-told-2
+    element-write-nodes
+    loop-less-2
+    loop-again-2
+    enum-known-successor
+    cast-choices
+    element-write-choices
+    element-write-nodes-2
+    loop-less-3
+    loop-again-3
+    returns)

@@ -1,0 +1,111 @@
+-- What the passes over the nodes leave in their tables.
+use Prim.Native.Nat.{ℕ, zero, suc, _+_, _*_, _<_, _≤_}
+use mathlib.Core.Path.{_≡_}
+use mathlib.Core.Logic.{_⊎_}
+use mathlib.Core.Bool.{Bool, true, false, cond}
+use mathlib.Core.List.{List, [], _∷_}
+use mathlib.Core.Option.{Option, none, some, Option·getD}
+use lib.ListN.{length, getD}
+use lib.Dec.{eqb, ltb}
+use lib.Count.{trailingZeros}
+use lib.IntN.{ℤ, pos}
+use lib.Signed.{leZ}
+use Rattle.fields.specs.Reading.{signed}
+use Rattle.fields.specs.Writing.{unsigned}
+use Rattle.schema.specs.Schema.{Node, schemaOf, nodeAt}
+use Rattle.policies.specs.Policies.{Policy, rankOf, rankCount, policiesOf, policyAt}
+use Rattle.policies.specs.Pass.{forced}
+use Rattle.instances.specs.Instance.{chooses}
+use Rattle.instances.specs.Plan.{valuesFrom}
+use Rattle.model.specs.Reconciling.{isSome, leastEach, Rules, taken, canStep, can, plan, rulesOf}
+use Rattle.order.specs.Order.{rankIn, inSet}
+use Rattle.conditions.specs.Held.{conditionsIn}
+use Rattle.conditions.specs.declared.Conditions.{Conditions}
+use Rattle.reconciler.specs.declared.Left.{Left}
+use Rattle.reconciler.specs.declared.Left.the-variants.{Value, Nothing}
+use Rattle.reconciler.specs.declared.Plan.{Plan}
+use Rattle.reconciler.specs.declared.Plan.the-variants.{Unmet, Met, Take}
+
+-- the bits of the least value left at place k, of a number or of a listed variable
+unfoldable pub leftIn : Conditions → ℕ → Bool → Left
+leftIn c k true = cond (leZ (getD (c .lo) k (pos 0)) (getD (c .hi) k (pos 0))) (Value (unsigned (getD (c .lo) k (pos 0)))) Nothing
+leftIn c k false = cond (eqb (getD (c .mask) k 0) 0) Nothing (Value (trailingZeros 32 (getD (c .mask) k 0)))
+
+pub record LeftIs (c : Conditions) (k : ℕ) (number : Bool) (r : Left) : Type 0 where
+  pub is : r ≡ leftIn c k number
+  pub back : number ≡ true → signed (unsigned (getD (c .lo) k (pos 0))) ≡ getD (c .lo) k (pos 0)
+
+-- r tells whether each of node n's variables has a value left, and then its four places have their bits
+pub record LeastIn (g : List Node) (n : ℕ) (c : Conditions) (t₀ t : List ℕ) (r : Bool) : Type 0 where
+  pub found : r ≡ isSome (leastEach (conditionsIn c 0 (nodeAt g n .variables)))
+  pub values : r ≡ true → leastEach (conditionsIn c 0 (nodeAt g n .variables)) ≡ some (valuesFrom (nodeAt g n .variables) t (4 * n))
+  pub others : (i : ℕ) → (i < 4 * n) ⊎ (4 * n + 4 ≤ i) → getD t i 0 ≡ getD t₀ i 0
+  pub long : length t ≡ length t₀
+
+-- the first rows have the ranks of node n's successors in these policies
+pub record Ranked (ps : List Policy) (n rows columns : ℕ) (t : List ℕ) : Type 0 where
+  pub ranks : (j k : ℕ) → j < rows → k < columns → rankIn t j k ≡ rankOf (policyAt ps j) n k
+  pub long : length t ≡ 128
+
+-- node n chooses among so many successors
+pub record Columns (schema : List ℕ) (n columns : ℕ) : Type 0 where
+  pub below : n < length (schemaOf schema)
+  pub is : columns ≡ length (nodeAt (schemaOf schema) n .successors)
+  pub ranked : columns ≡ rankCount (nodeAt (schemaOf schema) n)
+  pub most : columns ≤ 8
+
+-- row j has what it shall have, and those before it stay
+pub record RowFilled (q : Policy) (n j columns : ℕ) (t₀ t : List ℕ) : Type 0 where
+  pub ranks : (k : ℕ) → k < columns → rankIn t j k ≡ rankOf q n k
+  pub before : (i : ℕ) → i < 8 * j → getD t i 0 ≡ getD t₀ i 0
+  pub long : length t ≡ length t₀
+
+-- the first places tell which of node n's successors are in a set of nodes
+pub record SuccessorsIn (g : List Node) (n columns : ℕ) (nodes t : List ℕ) : Type 0 where
+  pub each : (k : ℕ) → k < columns → inSet t k ≡ inSet nodes (getD (nodeAt g n .successors) k 0)
+
+-- the successor in column k, none for column 8
+unfoldable pub columnOf : List Node → ℕ → ℕ → Option ℕ
+columnOf g n k = cond (ltb k 8) (some (getD (nodeAt g n .successors) k 0)) none
+
+-- column r is that of the successor that the model takes, where a set tells which nodes can be met
+pub record Chosen (schema p : List ℕ) (a b n : ℕ) (nodes : List ℕ) (r : ℕ) : Type 0 where
+  pub is : columnOf (schemaOf schema) n r
+      ≡ taken (schemaOf schema) (rulesOf (schemaOf schema) (forced a b (policiesOf (schemaOf schema) p))) (inSet nodes) n
+  pub inside : r < 8 → r < length (nodeAt (schemaOf schema) n .successors)
+
+abbrev pub metBy : Plan → Bool
+metBy Unmet = false
+metBy Met = true
+metBy (Take s) = true
+
+abbrev pub choiceBy : Plan → ℕ
+choiceBy Unmet = 255
+choiceBy Met = 255
+choiceBy (Take s) = s
+
+-- the rules of the policies in force
+abbrev pub rulesIn : List ℕ → List ℕ → ℕ → ℕ → Rules
+rulesIn schema p a b = rulesOf (schemaOf schema) (forced a b (policiesOf (schemaOf schema) p))
+
+-- r is what the model does at node n, where a set tells which nodes above it can be met; its values' bits are in its four places
+pub record NodePlanned (schema p : List ℕ) (a b n : ℕ) (nodes t₀ t : List ℕ) (r : Plan) : Type 0 where
+  pub met : metBy r ≡ canStep (schemaOf schema) (rulesIn schema p a b) (inSet nodes) n
+  pub choice : metBy r ≡ true
+      → choiceBy r ≡ cond (chooses (nodeAt (schemaOf schema) n)) (Option·getD (taken (schemaOf schema) (rulesIn schema p a b) (inSet nodes) n) 255) 255
+  pub small : choiceBy r < 256
+  pub values : metBy r ≡ true → valuesFrom (nodeAt (schemaOf schema) n .variables) t (4 * n) ≡ Option·getD (rulesIn schema p a b .least n) []
+  pub others : (i : ℕ) → (i < 4 * n) ⊎ (4 * n + 4 ≤ i) → getD t i 0 ≡ getD t₀ i 0
+  pub long : length t ≡ length t₀
+
+-- the tables have what the model does at each node from n on, and nothing of those below
+pub record Planned (schema p : List ℕ) (a b n : ℕ) (nodes choices bits : List ℕ) : Type 0 where
+  pub met : (m : ℕ) → n ≤ m → m < length (schemaOf schema) → inSet nodes m ≡ can (schemaOf schema) (rulesIn schema p a b) m
+  pub choice : (m : ℕ) → n ≤ m → m < length (schemaOf schema) → can (schemaOf schema) (rulesIn schema p a b) m ≡ true
+      → getD choices m 0 ≡ plan (schemaOf schema) (rulesIn schema p a b) m .choice
+  pub values : (m : ℕ) → n ≤ m → m < length (schemaOf schema) → can (schemaOf schema) (rulesIn schema p a b) m ≡ true
+      → valuesFrom (nodeAt (schemaOf schema) m .variables) bits (4 * m) ≡ plan (schemaOf schema) (rulesIn schema p a b) m .values
+  pub blank : (m : ℕ) → m < n → (getD nodes m 0 ≡ 0) × (getD choices m 0 ≡ 255)
+  pub nodes-long : length nodes ≡ 64
+  pub choices-long : length choices ≡ 64
+  pub bits-long : length bits ≡ 256
