@@ -1,0 +1,87 @@
+-- The call's answers, file by file.
+-- Rests on what the readers' contracts tell.
+use mathlib.Core.Path.{_≡_, refl, ap, sym, _∙_}
+use mathlib.Core.List.{List}
+use mathlib.Core.Option.{Option, none, some}
+use Prim.Native.Nat.{ℕ}
+use native.Mathlib.Omega.{arith}
+use Rattle.fields.specs.declared.Answer.{Answer}
+use Rattle.fields.specs.declared.Step.{Step}
+use Rattle.fields.specs.declared.Step.the-variants.{Next, Bad}
+use Rattle.fields.specs.Answers.{stepOf, success, refusal, judged}
+use Rattle.fields.proofs.Reading.{stepped, stopped}
+use Rattle.schema.specs.Schema.{Node, schema, schemaOf}
+use Rattle.schema.proofs.Accepted.{schema-got}
+use Rattle.policies.specs.Policies.{Policy, policiesOf}
+use Rattle.policies.specs.Pass.{pass, forced}
+use Rattle.policies.specs.Answers.{Told}
+use Rattle.policies.specs.declared.PoliciesRead.{PoliciesRead}
+use Rattle.policies.specs.declared.PoliciesRead.the-variants.{Policies, Refused}
+use Rattle.policies.proofs.Above.{accepted-policies, refused-policies}
+use Rattle.instances.specs.File.{instance}
+use Rattle.instances.specs.Lookup.{instanceOf}
+use Rattle.instances.proofs.Lookup.{readable-by}
+use Rattle.model.specs.Comparing.{forbidden}
+use Rattle.calls.specs.Calls.{permitted, checking}
+use Rattle.checker.specs.Checks.{forbiddenIn, afterPass, afterPolicies, afterSchema}
+use Rattle.checker.specs.declared.Forbidden.{Forbidden}
+use Rattle.checker.specs.declared.Forbidden.the-variants.{Nowhere, At}
+
+-- ---- the instance that was read
+
+module _ (o : Option ℕ) {x : Forbidden} (e : x ≡ forbiddenIn o) where
+  pub judge-none : x ≡ Nowhere → success 0 ≡ permitted o
+  unfolding permitted
+  judge-none h = go o (sym e ∙ h)
+    where
+      go : (o : Option ℕ) → forbiddenIn o ≡ Nowhere → success 0 ≡ permitted o
+      go none h = refl
+      go (some r) h = absurd (let z : _≡_ {A = ℕ} 0 1 = cc in omega arith)
+
+  pub judge-some : {q : ℕ} → x ≡ At q → refusal 18 4 q ≡ permitted o
+  unfolding permitted
+  judge-some {q} h = go o (sym e ∙ h)
+    where
+      go : (o : Option ℕ) → forbiddenIn o ≡ At q → refusal 18 4 q ≡ permitted o
+      go none h = absurd (let z : _≡_ {A = ℕ} 0 1 = cc in omega arith)
+      go (some r) h = let z : q ≡ r = cc in ap (refusal 18 4) z
+
+-- ---- file by file
+
+module _ (g : List Node) (ps : List Policy) (a b : ℕ) (s : List ℕ) {f : Step} (e : f ≡ stepOf (instance g s)) where
+  pub instance-bad : {n o : ℕ} → f ≡ Bad n o → refusal n 4 o ≡ afterPass g ps a b s
+  unfolding afterPass judged
+  instance-bad h = rw (stopped (instance g s) e h)
+
+  pub instance-ok : {q : ℕ} {r : Answer} → f ≡ Next q → r ≡ permitted (forbidden g (forced a b ps) (instanceOf g s)) → r ≡ afterPass g ps a b s
+  unfolding afterPass judged
+  instance-ok h k = rw (readable-by g s e h .reads) k
+
+module _ (g : List Node) (ps : List Policy) (a b : ℕ) (s : List ℕ) {f : Step} (e : f ≡ stepOf (pass a b)) where
+  pub days-bad : {n o : ℕ} → f ≡ Bad n o → refusal n 3 o ≡ afterPolicies g ps a b s
+  unfolding afterPolicies judged
+  days-bad h = rw (stopped (pass a b) e h)
+
+  pub days-ok : {q : ℕ} {r : Answer} → f ≡ Next q → r ≡ afterPass g ps a b s → r ≡ afterPolicies g ps a b s
+  unfolding afterPolicies judged
+  days-ok h k = rw (stepped (pass a b) e h .1) k
+
+module _ (schema p t : List ℕ) (a b : ℕ) (s : List ℕ) {f : PoliciesRead} (e : Told schema p f t) where
+  pub policies-bad : {n o : ℕ} → f ≡ Refused n o → refusal n 2 o ≡ afterSchema (schemaOf schema) p a b s
+  unfolding afterSchema judged
+  policies-bad h = rw (refused-policies schema p t e h)
+
+  pub policies-ok : {n : ℕ} {r : Answer} → f ≡ Policies n → r ≡ afterPolicies (schemaOf schema) (policiesOf (schemaOf schema) p) a b s → r ≡ afterSchema (schemaOf schema) p a b s
+  unfolding afterSchema judged
+  policies-ok h k = rw (accepted-policies schema p t e h .1) k
+
+module _ (schema-file p : List ℕ) (a b : ℕ) (s : List ℕ) {f : Step} (e : f ≡ stepOf (schema schema-file)) where
+  pub call-bad : {n o : ℕ} → f ≡ Bad n o → refusal n 1 o ≡ checking schema-file p a b s
+  unfolding checking judged
+  call-bad h = rw (stopped (schema schema-file) e h)
+
+  pub call-ok : {q : ℕ} {r : Answer} → f ≡ Next q → r ≡ afterSchema (schemaOf schema-file) p a b s → r ≡ checking schema-file p a b s
+  unfolding checking afterSchema afterPolicies afterPass judged
+  call-ok h k = rw (schema-got schema-file e h) k
+
+pub ruleset answering = (judge-none, judge-some, instance-bad, instance-ok, days-bad, days-ok, policies-bad, policies-ok, call-bad, call-ok)

@@ -1,0 +1,125 @@
+-- A choice is judged by its column: the successors from here on are left to compare, the policies from here on to ask.
+-- Rests on what the accessors answer, and on the policies in force.
+use mathlib.Core.Path.{_≡_, refl, ap, sym, _∙_}
+use mathlib.Core.Bool.{Bool, true, false, cond, not, _&&_}
+use mathlib.Core.List.{List, [], _∷_}
+use Prim.Native.Nat.{ℕ, suc, _+_, _≤_, _<_}
+use native.Mathlib.Omega.{arith}
+use native.Mathlib.Nat.{zero-add}
+use native.Mathlib.Numerals.{add-one}
+use borrow.Author.Tests.{eqb-true, eq-eqb, ne-eqb}
+use lib.Dec.{eqb, ltb}
+use lib.ListN.{length, getD, drop, drop-of-length-le}
+use lib.Seq.{drop-cons}
+use Rattle.fields.proofs.Tests.{and-true, never}
+use Rattle.schema.specs.Schema.{Node, schemaOf, nodeAt}
+use Rattle.schema.specs.Table.{NodeIn, AtMost, SuccessorIs}
+use Rattle.policies.specs.Policies.{Policy, rankCount, rankOf, policiesOf, noPolicy}
+use Rattle.policies.specs.Pass.{forced}
+use Rattle.policies.specs.Index.{PolicyIn, RankIn, policyOf, indexOf}
+use Rattle.instances.specs.Instance.{elem, chooses, rightChoice}
+use Rattle.model.specs.Satisfaction.{columnOf, rank, every, allowed, choiceMeets}
+use Rattle.conditions.specs.Held.{InForce}
+use Rattle.checker.specs.Checks.{allowedColumn, choosing}
+
+-- ---- the column of a successor
+
+-- what is left from place j on tells the column
+pub record Seeking (l : List ℕ) (x j : ℕ) : Type 0 where
+  pub upto : j ≤ length l
+  pub rest : j + columnOf x (drop j l) ≡ columnOf x l
+
+pub seeking-none : (l : List ℕ) (x : ℕ) → Seeking l x 0
+seeking-none l x = record { upto = omega arith; rest = zero-add (columnOf x l) }
+
+module _ (g : List Node) (n x j : ℕ) {c : ℕ} (w : Seeking (nodeAt g n .successors) x j) (m : AtMost 8 (length (nodeAt g n .successors)) c) where
+  abbrev l : List ℕ
+  l = nodeAt g n .successors
+
+  here : {y : ℕ} → j < c → SuccessorIs g n j y → drop j l ≡ y ∷ drop (j + 1) l
+  here h s = rw (add-one j) (drop-cons l j 0 (omega (arith, m .is)) ∙ ap (λ (z : ℕ). z ∷ drop (suc j) l) (sym (s .is)))
+
+  pub seeking-found : {y : ℕ} → j < c → SuccessorIs g n j y → y ≡ x → AtMost 8 (columnOf x l) j
+  unfolding columnOf
+  seeking-found {y} h s e =
+      let z : columnOf x (drop j l) ≡ 0 = ap (columnOf x) (here h s) ∙ ap (λ (t : Bool). cond t 0 (suc (columnOf x (drop (j + 1) l)))) (eq-eqb y x e) in
+      record { is = omega (arith, w .rest); most = omega (arith, m .most) }
+
+  pub seeking-more : {y : ℕ} → j < c → SuccessorIs g n j y → (y ≡ x → ⊥) → Seeking l x (j + 1)
+  unfolding columnOf
+  seeking-more {y} h s e =
+      let z : columnOf x (drop j l) ≡ suc (columnOf x (drop (j + 1) l)) = ap (columnOf x) (here h s) ∙ ap (λ (t : Bool). cond t 0 (suc (columnOf x (drop (j + 1) l)))) (ne-eqb y x e) in
+      record { upto = omega (arith, m .is); rest = omega (arith, w .rest) }
+
+  pub seeking-done : c ≤ j → AtMost 8 (columnOf x l) j
+  unfolding columnOf
+  seeking-done h =
+      let z : columnOf x (drop j l) ≡ 0 = ap (columnOf x) (drop-of-length-le l {i = j} (omega (arith, m .is))) in
+      record { is = omega (arith, w .rest); most = omega (arith, w .upto, m .is, m .most) }
+
+column-in : (x : ℕ) (l : List ℕ) → elem x l ≡ true → columnOf x l < length l
+unfolding columnOf
+column-in x [] t = never t
+column-in x (y ∷ l) t = go (eqb y x) refl (column-in x l)
+  where
+    go : (b : Bool) → eqb y x ≡ b → (elem x l ≡ true → columnOf x l < length l) → cond b 0 (suc (columnOf x l)) < suc (length l)
+    go true e ih = omega arith
+    go false e ih = let k = ih (other (eqb x y) refl t) in omega arith
+      where
+        other : (b : Bool) → eqb x y ≡ b → elem x (y ∷ l) ≡ true → elem x l ≡ true
+        other true f u = never (sym e ∙ eq-eqb y x (sym (eqb-true x y f)))
+        other false f u = rw f at u
+
+-- ---- the policies from row r on
+
+pub record Asking (ps : List Policy) (n k r : ℕ) : Type 0 where
+  pub rest : allowedColumn (drop r ps) n k ≡ allowedColumn ps n k
+
+pub asking-none : (ps : List Policy) (n k : ℕ) → Asking ps n k 0
+asking-none ps n k = record { rest = refl }
+
+module _ (schema p list : List ℕ) (a b n k r : ℕ) {rows : ℕ} (w : Asking (forced a b (policiesOf (schemaOf schema) p)) n k r) (f : InForce schema p list rows a b) where
+  abbrev ps : List Policy
+  ps = forced a b (policiesOf (schemaOf schema) p)
+
+  next : {y : ℕ} → r < rows → y ≡ rankOf (policyOf schema p (getD list r 0)) n k → allowedColumn ps n k ≡ not (eqb y 255) && allowedColumn (drop (r + 1) ps) n k
+  unfolding allowedColumn
+  next {y} h e =
+      let d : drop r ps ≡ policyOf schema p (getD list r 0) ∷ drop (r + 1) ps =
+      rw (add-one r) (drop-cons ps r noPolicy (omega (arith, f .rows-is)) ∙ ap (λ (q : Policy). q ∷ drop (suc r) ps) (sym (f .is r h))) in
+      sym (w .rest)
+      ∙ ap (λ (l : List Policy). every (λ (q : Policy). not (eqb (rankOf q n k) 255)) l) d
+      ∙ ap (λ (z : ℕ). not (eqb z 255) && every (λ (q : Policy). not (eqb (rankOf q n k) 255)) (drop (r + 1) ps)) (sym e)
+
+  pub asking-policy : (index : List ℕ) → index ≡ indexOf (policiesOf (schemaOf schema) p) → r < rows → PolicyIn schema p index (getD list r 0)
+  asking-policy index e h = record { index = e; below = f .inside r h }
+
+  pub asking-no : {y : ℕ} → r < rows → y ≡ rankOf (policyOf schema p (getD list r 0)) n k → y ≡ 255 → false ≡ allowedColumn ps n k
+  asking-no {y} h e t = sym (rw (eq-eqb y 255 t) at (next h e))
+
+  pub asking-on : {y : ℕ} → r < rows → y ≡ rankOf (policyOf schema p (getD list r 0)) n k → (y ≡ 255 → ⊥) → Asking ps n k (r + 1)
+  asking-on {y} h e t = record { rest = sym (rw (ne-eqb y 255 t) at (next h e)) }
+
+  pub asking-done : rows ≤ r → true ≡ allowedColumn ps n k
+  unfolding allowedColumn
+  asking-done h = rw (drop-of-length-le ps {i = r} (omega (arith, f .rows-is))) at (w .rest)
+
+-- ---- a choice
+
+pub choice-rank : (schema table : List ℕ) (n x : ℕ) {c : Bool} {k : ℕ} → NodeIn schema table n → c ≡ chooses (nodeAt (schemaOf schema) n) → c ≡ true
+    → AtMost 8 (columnOf x (nodeAt (schemaOf schema) n .successors)) k → rightChoice (nodeAt (schemaOf schema) n) x ≡ true → RankIn schema n k
+unfolding rightChoice rankCount chooses
+choice-rank schema table n x w e h m r =
+    let nd = nodeAt (schemaOf schema) n in
+    let t = and-true (eqb (nd .kind) 1) (ltb 0 (length (nd .successors))) (sym e ∙ h) in
+    let el : elem x (nd .successors) ≡ true = rw (sym e ∙ h) at r in
+    record { below = w .below; rank = rw (t .0) (omega (arith, m .is, column-in x (nd .successors) el)) }
+
+module _ (g : List Node) (ps : List Policy) (n x : ℕ) {c : Bool} (e : c ≡ chooses (nodeAt g n)) where
+  pub choice-free : c ≡ false → true ≡ choiceMeets g ps (choosing n x)
+  unfolding choiceMeets
+  choice-free h = rw (sym e ∙ h)
+
+  pub choice-is : {k : ℕ} {r : Bool} → c ≡ true → AtMost 8 (columnOf x (nodeAt g n .successors)) k → r ≡ allowedColumn ps n k → r ≡ choiceMeets g ps (choosing n x)
+  unfolding choiceMeets allowedColumn allowed rank
+  choice-is h m q = rw (sym e ∙ h) (q ∙ ap (λ (j : ℕ). every (λ (p : Policy). not (eqb (rankOf p n j) 255)) ps) (m .is))

@@ -1,0 +1,4 @@
+pub mod Choices
+pub mod Values
+pub mod Entries
+pub mod Answers

@@ -1,0 +1,355 @@
+// The checker: the first choice or value field of an instance that a policy in force forbids.
+ghost use mathlib.Core.Path.{_≡_};
+ghost use mathlib.Core.Bool.{true};
+ghost use Prim.Native.Nat.{_+_, _<_, _≤_};
+ghost use lib.ListN.{length};
+ghost use Rattle.numbers.specs.Bits.{bit};
+ghost use Rattle.schema.specs.Schema.{schemaOf, nodeAt};
+ghost use Rattle.schema.specs.Table.{tableOf, Accepted, NodeIn, AtMost};
+ghost use Rattle.policies.specs.Policies.{policiesOf};
+ghost use Rattle.policies.specs.Pass.{forced};
+ghost use Rattle.policies.specs.Index.{indexOf, Indexed, RankIn};
+ghost use Rattle.instances.specs.Instance.{rightChoice};
+ghost use Rattle.instances.specs.File.{values};
+ghost use Rattle.instances.specs.Lookup.{instanceOf, Readable};
+ghost use Rattle.model.specs.Satisfaction.{columnOf, choiceMeets};
+ghost use Rattle.model.specs.Comparing.{forbiddenValue, forbiddenEntry, forbidden};
+ghost use Rattle.calls.specs.Calls.{permitted, checking};
+ghost use Rattle.conditions.specs.Held.{InForce};
+ghost use Rattle.checker.specs.Checks.{forbiddenIn, allowedColumn, choosing, widthOf, admitsAt, valuesIn, ValuesThere, entryIn, EntryThere, afterPass, afterPolicies, afterSchema};
+use conditions::Conditions;
+use fields::Answer;
+use fields::Step;
+use policies::PoliciesRead;
+
+// The offset of the first field that is forbidden, if there is one.
+enum Forbidden {
+    Nowhere,
+    At { offset: usize },
+}
+
+// The place of x among node n's successors.
+fn column_of(schema: &[u8], table: &[usize; 320], n: usize, x: usize) -> usize
+    requires { ⌜ NodeIn (now schema) (now table) n ⌝ }
+    ensures { λ r. ⌜ AtMost 8 (columnOf x (nodeAt (schemaOf (now (schema .entry))) n .successors)) r ⌝ }
+{
+    let c = schema::successor_count(schema, table, n);
+    let mut j: usize = 0;
+    while j < c {
+        if schema::successor_of(schema, table, n, j) == x {
+            return j;
+        }
+        j += 1;
+    }
+    j
+}
+
+// Whether no policy in force gives node n's successor k rank 255.
+fn column_allowed(
+    schema: &[u8],
+    p: &[u8],
+    index: &[usize; 1040],
+    list: &[usize; 16],
+    rows: usize,
+    a: u16,
+    b: u16,
+    n: usize,
+    k: usize,
+) -> bool
+    requires { ⌜ now index ≡ indexOf (policiesOf (schemaOf (now schema)) (now p)) ⌝ }
+    requires { ⌜ InForce (now schema) (now p) (now list) rows a b ⌝ }
+    requires { ⌜ RankIn (now schema) n k ⌝ }
+    ensures { λ r. ⌜ r ≡ allowedColumn (forced a b (policiesOf (schemaOf (now (schema .entry))) (now (p .entry)))) n k ⌝ }
+{
+    let mut r: usize = 0;
+    while r < rows {
+        if policies::rank_of(schema, p, index, list[r], n, k) == 255 {
+            return false;
+        }
+        r += 1;
+    }
+    true
+}
+
+// Whether every policy in force allows choice x of node n.
+fn choice_allowed(
+    schema: &[u8],
+    table: &[usize; 320],
+    p: &[u8],
+    index: &[usize; 1040],
+    list: &[usize; 16],
+    rows: usize,
+    a: u16,
+    b: u16,
+    n: usize,
+    x: usize,
+) -> bool
+    requires { ⌜ NodeIn (now schema) (now table) n ⌝ }
+    requires { ⌜ now index ≡ indexOf (policiesOf (schemaOf (now schema)) (now p)) ⌝ }
+    requires { ⌜ InForce (now schema) (now p) (now list) rows a b ⌝ }
+    requires { ⌜ rightChoice (nodeAt (schemaOf (now schema)) n) x ≡ true ⌝ }
+    ensures { λ r. ⌜ r ≡ choiceMeets (schemaOf (now (schema .entry))) (forced a b (policiesOf (schemaOf (now (schema .entry))) (now (p .entry)))) (choosing n x) ⌝ }
+{
+    if instances::chooses(schema, table, n) {
+        let k = column_of(schema, table, n, x);
+        return column_allowed(schema, p, index, list, rows, a, b, n, k);
+    }
+    true
+}
+
+// Whether a mask admits value i.
+fn has_value(m: u32, i: u8) -> bool
+    ensures { λ r. ⌜ r ≡ bit m i ⌝ }
+{
+    if i < 32 {
+        return numbers::has(m as u64, i as usize);
+    }
+    false
+}
+
+// How many bytes a value has.
+fn width_of(number: bool) -> usize
+    ensures { λ r. ⌜ r ≡ widthOf number ⌝ }
+{
+    if number { 4 } else { 1 }
+}
+
+// Whether the condition at place k admits the value that stands at a place of the file.
+fn admits(c: Conditions, k: usize, number: bool, s: &[u8], at: usize) -> bool
+    requires { ⌜ k < 4 ⌝ }
+    requires { ⌜ at + widthOf number ≤ length (now s) ⌝ }
+    ensures { λ r. ⌜ r ≡ admitsAt c k number (now (s .entry)) at ⌝ }
+{
+    if number {
+        let x = fields::i32_at(s, at);
+        if c.lo[k] <= x {
+            return x <= c.hi[k];
+        }
+        return false;
+    }
+    has_value(c.mask[k], s[at])
+}
+
+// The first of node n's values, from a place of the file on, that a policy in force does not admit.
+fn first_value(
+    schema: &[u8],
+    table: &[usize; 320],
+    p: &[u8],
+    index: &[usize; 1040],
+    list: &[usize; 16],
+    rows: usize,
+    a: u16,
+    b: u16,
+    n: usize,
+    s: &[u8],
+    from: usize,
+) -> Forbidden
+    requires { ⌜ NodeIn (now schema) (now table) n ⌝ }
+    requires { ⌜ now index ≡ indexOf (policiesOf (schemaOf (now schema)) (now p)) ⌝ }
+    requires { ⌜ InForce (now schema) (now p) (now list) rows a b ⌝ }
+    requires { ⌜ ValuesThere (schemaOf (now schema)) n (now s) from ⌝ }
+    ensures { λ r. ⌜ r ≡ forbiddenIn (forbiddenValue (forced a b (policiesOf (schemaOf (now (schema .entry))) (now (p .entry)))) n 0 (nodeAt (schemaOf (now (schema .entry))) n .variables) (valuesIn (values (now (s .entry)) (nodeAt (schemaOf (now (schema .entry))) n .variables) from)) from) ⌝ }
+{
+    let v = schema::variable_count(schema, table, n);
+    let c = conditions::combine(schema, table, p, index, list, rows, a, b, n);
+    let mut at = from;
+    let mut k: usize = 0;
+    while k < v {
+        let number = schema::is_number(schema, table, n, k);
+        if admits(c, k, number, s, at) {
+            at += width_of(number);
+            k += 1;
+        } else {
+            return Forbidden::At { offset: at };
+        }
+    }
+    Forbidden::Nowhere
+}
+
+// The first forbidden field of the entry that stands at a place of the file.
+fn first_in_entry(
+    schema: &[u8],
+    table: &[usize; 320],
+    p: &[u8],
+    index: &[usize; 1040],
+    list: &[usize; 16],
+    rows: usize,
+    a: u16,
+    b: u16,
+    s: &[u8],
+    at: usize,
+) -> Forbidden
+    requires { ⌜ now table ≡ tableOf (schemaOf (now schema)) ⌝ }
+    requires { ⌜ now index ≡ indexOf (policiesOf (schemaOf (now schema)) (now p)) ⌝ }
+    requires { ⌜ InForce (now schema) (now p) (now list) rows a b ⌝ }
+    requires { ⌜ EntryThere (schemaOf (now schema)) (now s) at ⌝ }
+    ensures { λ r. ⌜ r ≡ forbiddenIn (forbiddenEntry (schemaOf (now (schema .entry))) (forced a b (policiesOf (schemaOf (now (schema .entry))) (now (p .entry)))) (entryIn (schemaOf (now (schema .entry))) (now (s .entry)) at) at) ⌝ }
+{
+    let n = s[at + 2] as usize;
+    let x = s[at + 3] as usize;
+    if choice_allowed(schema, table, p, index, list, rows, a, b, n, x) {
+        return first_value(schema, table, p, index, list, rows, a, b, n, s, at + 4);
+    }
+    Forbidden::At { offset: at + 3 }
+}
+
+// The first forbidden field of an accepted instance file.
+fn first_forbidden(
+    schema: &[u8],
+    table: &[usize; 320],
+    p: &[u8],
+    index: &[usize; 1040],
+    list: &[usize; 16],
+    rows: usize,
+    a: u16,
+    b: u16,
+    s: &[u8],
+) -> Forbidden
+    requires { ⌜ Accepted (now schema) ⌝ }
+    requires { ⌜ now table ≡ tableOf (schemaOf (now schema)) ⌝ }
+    requires { ⌜ now index ≡ indexOf (policiesOf (schemaOf (now schema)) (now p)) ⌝ }
+    requires { ⌜ InForce (now schema) (now p) (now list) rows a b ⌝ }
+    requires { ⌜ Readable (schemaOf (now schema)) (now s) ⌝ }
+    ensures { λ r. ⌜ r ≡ forbiddenIn (forbidden (schemaOf (now (schema .entry))) (forced a b (policiesOf (schemaOf (now (schema .entry))) (now (p .entry)))) (instanceOf (schemaOf (now (schema .entry))) (now (s .entry)))) ⌝ }
+{
+    let mut left = s[2];
+    let mut at: usize = 3;
+    while 0 < left {
+        match first_in_entry(schema, table, p, index, list, rows, a, b, s, at) {
+            Forbidden::At { offset } => {
+                return Forbidden::At { offset };
+            }
+            Forbidden::Nowhere => {
+                let n = s[at + 2] as usize;
+                at = at + 4 + instances::values_width(schema, table, n);
+                left -= 1;
+            }
+        }
+    }
+    Forbidden::Nowhere
+}
+
+// The answer for an accepted instance.
+fn judge(
+    schema: &[u8],
+    table: &[usize; 320],
+    p: &[u8],
+    index: &[usize; 1040],
+    count: usize,
+    a: u16,
+    b: u16,
+    s: &[u8],
+) -> Answer
+    requires { ⌜ Accepted (now schema) ⌝ }
+    requires { ⌜ now table ≡ tableOf (schemaOf (now schema)) ⌝ }
+    requires { ⌜ Indexed (now schema) (now p) (now index) count ⌝ }
+    requires { ⌜ Readable (schemaOf (now schema)) (now s) ⌝ }
+    ensures { λ r. ⌜ r ≡ permitted (forbidden (schemaOf (now (schema .entry))) (forced a b (policiesOf (schemaOf (now (schema .entry))) (now (p .entry)))) (instanceOf (schemaOf (now (schema .entry))) (now (s .entry)))) ⌝ }
+{
+    let mut list = [0usize; 16];
+    let rows = policies::list_in_force(schema, p, index, count, a, b, &mut list);
+    match first_forbidden(schema, table, p, index, &list, rows, a, b, s) {
+        Forbidden::Nowhere => Answer {
+            number: 0,
+            file: 0,
+            offset: 0,
+            value: 0,
+        },
+        Forbidden::At { offset } => Answer {
+            number: 18,
+            file: 4,
+            offset,
+            value: 0,
+        },
+    }
+}
+
+// The answer after schema, policies and pass.
+fn check_instance(
+    schema: &[u8],
+    table: &[usize; 320],
+    p: &[u8],
+    index: &[usize; 1040],
+    count: usize,
+    a: u16,
+    b: u16,
+    s: &[u8],
+) -> Answer
+    requires { ⌜ Accepted (now schema) ⌝ }
+    requires { ⌜ now table ≡ tableOf (schemaOf (now schema)) ⌝ }
+    requires { ⌜ Indexed (now schema) (now p) (now index) count ⌝ }
+    ensures { λ r. ⌜ r ≡ afterPass (schemaOf (now (schema .entry))) (policiesOf (schemaOf (now (schema .entry))) (now (p .entry))) a b (now (s .entry)) ⌝ }
+{
+    match instances::read_instance(schema, table, s) {
+        Step::Bad { number, offset } => Answer {
+            number,
+            file: 4,
+            offset,
+            value: 0,
+        },
+        Step::Next { at: _ } => judge(schema, table, p, index, count, a, b, s),
+    }
+}
+
+// The answer after schema and policies.
+fn check_days(
+    schema: &[u8],
+    table: &[usize; 320],
+    p: &[u8],
+    index: &[usize; 1040],
+    count: usize,
+    a: u16,
+    b: u16,
+    s: &[u8],
+) -> Answer
+    requires { ⌜ Accepted (now schema) ⌝ }
+    requires { ⌜ now table ≡ tableOf (schemaOf (now schema)) ⌝ }
+    requires { ⌜ Indexed (now schema) (now p) (now index) count ⌝ }
+    ensures { λ r. ⌜ r ≡ afterPolicies (schemaOf (now (schema .entry))) (policiesOf (schemaOf (now (schema .entry))) (now (p .entry))) a b (now (s .entry)) ⌝ }
+{
+    match policies::check_pass(a, b) {
+        Step::Bad { number, offset } => Answer {
+            number,
+            file: 3,
+            offset,
+            value: 0,
+        },
+        Step::Next { at: _ } => check_instance(schema, table, p, index, count, a, b, s),
+    }
+}
+
+// The answer after the schema.
+fn check_policies(schema: &[u8], p: &[u8], a: u16, b: u16, s: &[u8]) -> Answer
+    requires { ⌜ Accepted (now schema) ⌝ }
+    ensures { λ r. ⌜ r ≡ afterSchema (schemaOf (now (schema .entry))) (now (p .entry)) a b (now (s .entry)) ⌝ }
+{
+    let table = schema::table_of(schema);
+    let nodes = schema::count_of(schema);
+    let mut index = [0usize; 1040];
+    match policies::read_policies(schema, &table, nodes, p, &mut index) {
+        PoliciesRead::Refused { number, offset } => Answer {
+            number,
+            file: 2,
+            offset,
+            value: 0,
+        },
+        PoliciesRead::Policies { count } => {
+            check_days(schema, &table, p, &index, count, a, b, s)
+        }
+    }
+}
+
+// The answer for schema, policies, a pass from day a to day b and an instance.
+pub fn check(schema: &[u8], policies: &[u8], a: u16, b: u16, instance: &[u8]) -> Answer
+    ensures { λ r. ⌜ r ≡ checking (now (schema .entry)) (now (policies .entry)) a b (now (instance .entry)) ⌝ }
+{
+    match schema::read_schema(schema) {
+        Step::Bad { number, offset } => Answer {
+            number,
+            file: 1,
+            offset,
+            value: 0,
+        },
+        Step::Next { at: _ } => check_policies(schema, policies, a, b, instance),
+    }
+}

@@ -1,0 +1,142 @@
+-- The order of two numbers at a node: their columns, the ranks there, and the first policy in force whose ranks differ.
+-- Rests on what the accessors of schema and policies answer, and on sound policies for a column that no rank has.
+use mathlib.Core.Path.{_≡_, refl, ap, sym, _∙_}
+use mathlib.Core.Bool.{Bool, true, false, cond}
+use mathlib.Core.List.{List, [], _∷_}
+use Prim.Native.Nat.{ℕ, zero, suc, _+_, _≤_, _<_}
+use native.Mathlib.Omega.{arith}
+use native.Mathlib.Numerals.{add-one}
+use native.Mathlib.Nat.{zero-add}
+use borrow.Author.Tests.{lt-ltb, le-ltb, eq-eqb, ne-eqb}
+use lib.Dec.{eqb, ltb}
+use lib.ListN.{length, getD, drop, drop-of-length-le}
+use lib.Seq.{drop-cons}
+use Rattle.schema.specs.Schema.{Node, nodeAt, schemaOf}
+use Rattle.schema.specs.Table.{NodeIn, AtMost, SuccessorIs}
+use Rattle.policies.specs.Policies.{Rule, Policy, rankCount, policiesOf, noPolicy, rankOf}
+use Rattle.policies.specs.Pass.{forced}
+use Rattle.policies.specs.Index.{PolicyIn, RankIn, policyOf}
+use Rattle.policies.proofs.Sound.{stood, Says, silent, speaks, says}
+use Rattle.model.specs.Satisfaction.{columnOf, rank}
+use Rattle.model.specs.Order.{betterBy, better}
+use Rattle.comparison.specs.Comparison.{Ranking}
+
+-- ---- a node's successors, from successor j on
+
+abbrev pub links : List Node → ℕ → List ℕ
+links g n = nodeAt g n .successors
+
+module _ (g : List Node) (n j : ℕ) {c : ℕ} where
+  pub links-more : {y : ℕ} → AtMost 8 (length (links g n)) c → j < c → SuccessorIs g n j y → drop j (links g n) ≡ y ∷ drop (j + 1) (links g n)
+  links-more {y} l h e = rw (add-one j) (drop-cons (links g n) j 0 (omega (arith, l .is)) ∙ ap (λ (z : ℕ). z ∷ drop (suc j) (links g n)) (sym (e .is)))
+
+  pub links-none : AtMost 8 (length (links g n)) c → c ≤ j → drop j (links g n) ≡ []
+  links-none l h = drop-of-length-le (links g n) {i = j} (omega (arith, l .is))
+
+  -- the place of a number among them
+  pub column-found : {x y X : ℕ} → j + columnOf x (drop j (links g n)) ≡ X → AtMost 8 (length (links g n)) c → j < c → SuccessorIs g n j y → y ≡ x → j ≡ X
+  unfolding columnOf
+  column-found {x} {y} v l h e q =
+      let z : columnOf x (drop j (links g n)) ≡ 0 = ap (columnOf x) (links-more l h e) ∙ ap (λ (b : Bool). cond b 0 (suc (columnOf x (drop (j + 1) (links g n))))) (eq-eqb y x q) in
+      omega arith
+
+  pub column-more : {x y X : ℕ} → j + columnOf x (drop j (links g n)) ≡ X → AtMost 8 (length (links g n)) c → j < c → SuccessorIs g n j y → (y ≡ x → ⊥)
+      → j + 1 + columnOf x (drop (j + 1) (links g n)) ≡ X
+  unfolding columnOf
+  column-more {x} {y} v l h e q =
+      let z : columnOf x (drop j (links g n)) ≡ suc (columnOf x (drop (j + 1) (links g n))) =
+      ap (columnOf x) (links-more l h e) ∙ ap (λ (b : Bool). cond b 0 (suc (columnOf x (drop (j + 1) (links g n))))) (ne-eqb y x q) in
+      omega arith
+
+  pub column-done : (x : ℕ) {X : ℕ} → j + columnOf x (drop j (links g n)) ≡ X → AtMost 8 (length (links g n)) c → c ≤ j → j ≡ X
+  unfolding columnOf
+  column-done x v l h = let z : columnOf x (drop j (links g n)) ≡ 0 = ap (columnOf x) (links-none l h) in omega arith
+
+pub column-start : (g : List Node) (n x : ℕ) → 0 + columnOf x (drop 0 (links g n)) ≡ columnOf x (links g n)
+column-start g n x = zero-add (columnOf x (links g n))
+
+-- ---- the rank in a column
+
+beyond : (l : List ℕ) (k : ℕ) → length l ≤ k → 0 ≡ getD l k 0
+beyond [] k h = refl
+beyond (x ∷ l) zero h = absurd (omega arith)
+beyond (x ∷ l) (suc k) h = beyond l k (omega arith)
+
+rule-beyond : (g : List Node) (n k : ℕ) {x : Rule} → Says g n x → rankCount (nodeAt g n) ≤ k → 0 ≡ getD (x .ranks) k 0
+rule-beyond g n k silent h = refl
+rule-beyond g n k (speaks {x = x} e w) h = beyond (x .ranks) k (let z : length (x .ranks) ≡ rankCount (nodeAt g n) = w .ranks ∙ ap (λ (m : ℕ). rankCount (nodeAt g m)) e in omega arith)
+
+module _ (schema table p t : List ℕ) (j n k : ℕ) {c : ℕ} (l : AtMost 8 (rankCount (nodeAt (schemaOf schema) n)) c) where
+  pub rank-inside : NodeIn schema table n → k < c → RankIn schema n k
+  rank-inside w h = record { below = w .below; rank = omega (arith, l .is) }
+
+  pub rank-beyond : PolicyIn schema p t j → c ≤ k → 0 ≡ rankOf (policyOf schema p j) n k
+  unfolding rankOf
+  rank-beyond w h =
+      rule-beyond (schemaOf schema) n k (says (schemaOf schema) n 0 (policyOf schema p j .rules) (stood (schemaOf schema) p .sound .each j (w .below) .rules)) (omega (arith, l .is))
+
+-- ---- the policies in force: those from row r on decide what all decide
+
+pub record Deciding (g : List Node) (ps : List Policy) (n x y r : ℕ) : Type 0 where
+  pub rest : betterBy (λ (q : Policy) (s : ℕ). rank g q n s) (drop r ps) x y ≡ better g ps n x y
+
+pub deciding-start : (g : List Node) (ps : List Policy) (n x y : ℕ) → Deciding g ps n x y 0
+unfolding better
+deciding-start g ps n x y = record { rest = refl }
+
+module _ (schema p index list : List ℕ) (a b n x y r : ℕ) where
+  abbrev g : List Node
+  g = schemaOf schema
+
+  abbrev ps : List Policy
+  ps = forced a b (policiesOf g p)
+
+  abbrev ranks : Policy → ℕ → ℕ
+  ranks q s = rank g q n s
+
+  abbrev q : Policy
+  q = policyOf schema p (getD list r 0)
+
+  pub row-in : {rows : ℕ} → Ranking schema p index list rows a b → r < rows → PolicyIn schema p index (getD list r 0)
+  row-in w h = record { index = w .index-is; below = w .in-force .inside r h }
+
+  pub row-few : {rows : ℕ} → Ranking schema p index list rows a b → r < rows → r < 16
+  row-few w h = let z = w .in-force .few in omega arith
+
+  rows-more : {rows : ℕ} → Ranking schema p index list rows a b → r < rows → drop r ps ≡ q ∷ drop (r + 1) ps
+  rows-more w h = rw (add-one r) (drop-cons ps r noPolicy (omega (arith, w .in-force .rows-is)) ∙ ap (λ (z : Policy). z ∷ drop (suc r) ps) (sym (w .in-force .is r h)))
+
+  module _ {rows : ℕ} (i : Deciding g ps n x y r) (w : Ranking schema p index list rows a b) (h : r < rows) {c d s t : ℕ} (cx : c ≡ columnOf x (links g n)) (cy : d ≡ columnOf y (links g n))
+      (sx : s ≡ rankOf q n c) (ty : t ≡ rankOf q n d) where
+    -- the two ranks that were found
+    at-x : ranks q x ≡ s
+    unfolding rank
+    at-x = ap (rankOf q n) (sym cx) ∙ sym sx
+
+    at-y : ranks q y ≡ t
+    unfolding rank
+    at-y = ap (rankOf q n) (sym cy) ∙ sym ty
+
+    step : betterBy ranks (drop r ps) x y ≡ cond (eqb (ranks q x) (ranks q y)) (betterBy ranks (drop (r + 1) ps) x y) (ltb (ranks q x) (ranks q y))
+    unfolding betterBy
+    step = ap (λ (l : List Policy). betterBy ranks l x y) (rows-more w h)
+
+    turn : cond (eqb s t) (betterBy ranks (drop (r + 1) ps) x y) (ltb s t) ≡ better g ps n x y
+    turn =
+        sym (ap (λ (u : ℕ). cond (eqb u t) (betterBy ranks (drop (r + 1) ps) x y) (ltb u t)) at-x)
+        ∙ sym (ap (λ (u : ℕ). cond (eqb (ranks q x) u) (betterBy ranks (drop (r + 1) ps) x y) (ltb (ranks q x) u)) at-y)
+        ∙ sym step
+        ∙ i .rest
+
+    pub better-less : s < t → true ≡ better g ps n x y
+    better-less l = rw (ne-eqb s t (λ e. omega arith), lt-ltb s t l) at turn
+
+    pub better-more : t < s → false ≡ better g ps n x y
+    better-more l = rw (ne-eqb s t (λ e. omega arith), le-ltb s t (omega arith)) at turn
+
+    pub better-on : t ≤ s → s ≤ t → Deciding g ps n x y (r + 1)
+    better-on l m = record { rest = rw (eq-eqb s t (omega arith)) at turn }
+
+  pub better-done : {rows : ℕ} → Deciding g ps n x y r → Ranking schema p index list rows a b → rows ≤ r → ltb x y ≡ better g ps n x y
+  unfolding betterBy
+  better-done i w h = sym (ap (λ (l : List Policy). betterBy ranks l x y) (drop-of-length-le ps {i = r} (omega (arith, w .in-force .rows-is)))) ∙ i .rest

@@ -1,0 +1,86 @@
+-- The call, file by file: one law for each way that a reading can end, then the verdict.
+-- Rests on what the readers' contracts tell, and on Listed for the policies in force.
+use mathlib.Core.Path.{_≡_, ap, ap₂, _∙_}
+use mathlib.Core.Bool.{Bool}
+use mathlib.Core.List.{List}
+use Prim.Native.Nat.{ℕ}
+use Rattle.fields.specs.Answers.{stepOf, success, refusal, judged}
+use Rattle.fields.specs.declared.Answer.{Answer}
+use Rattle.fields.specs.declared.Step.{Step}
+use Rattle.fields.specs.declared.Step.the-variants.{Next, Bad}
+use Rattle.fields.proofs.Reading.{stepped, stopped}
+use Rattle.schema.specs.Schema.{Node, schema, schemaOf}
+use Rattle.schema.proofs.Accepted.{schema-got}
+use Rattle.policies.specs.Policies.{Policy, policiesOf}
+use Rattle.policies.specs.Pass.{pass, forced, positions, Listing}
+use Rattle.policies.specs.Index.{Indexed}
+use Rattle.policies.specs.Answers.{Told}
+use Rattle.policies.specs.declared.PoliciesRead.{PoliciesRead}
+use Rattle.policies.specs.declared.PoliciesRead.the-variants.{Policies, Refused}
+use Rattle.policies.proofs.Above.{accepted-policies, refused-policies}
+use Rattle.instances.specs.File.{instance}
+use Rattle.instances.specs.Lookup.{instanceOf}
+use Rattle.instances.proofs.Lookup.{readable-by}
+use Rattle.model.specs.Order.{asGood}
+use Rattle.model.specs.Comparing.{verdict, compared}
+use Rattle.calls.specs.Calls.{comparing}
+use Rattle.comparison.specs.Comparison.{Ranking, withPolicies, withSchema}
+use Rattle.conditions.proofs.Listed.{listed}
+
+-- ---- the policies in force
+
+pub ranking-by : (schema p t : List ℕ) (a b : ℕ) (l₀ l : List ℕ) {count rows : ℕ} → Indexed schema p t count
+    → Listing (positions a b 0 (policiesOf (schemaOf schema) p)) l₀ l rows → Ranking schema p t l rows a b
+ranking-by schema p t a b l₀ l w k = record { index-is = w .index; in-force = listed schema p t a b l₀ l w k }
+
+-- ---- the verdict
+
+pub verdict-by : (g : List Node) (ps : List Policy) (s t : List ℕ) {x y : Bool} {r : ℕ} → x ≡ asGood g ps (instanceOf g s) (instanceOf g t) → y ≡ asGood g ps (instanceOf g t) (instanceOf g s)
+    → r ≡ verdict x y → r ≡ compared g ps (instanceOf g s) (instanceOf g t)
+unfolding compared
+verdict-by g ps s t e f q = q ∙ ap₂ verdict e f
+
+-- ---- the instances
+
+module _ (g : List Node) (ps : List Policy) (s t : List ℕ) {x : Step} (e : x ≡ stepOf (instance g s)) where
+  pub first-bad : {n o : ℕ} → x ≡ Bad n o → refusal n 4 o ≡ withPolicies g ps s t
+  unfolding withPolicies judged
+  first-bad h = rw (stopped (instance g s) e h)
+
+  module _ {q : ℕ} (h : x ≡ Next q) {y : Step} (f : y ≡ stepOf (instance g t)) where
+    pub second-bad : {n o : ℕ} → y ≡ Bad n o → refusal n 5 o ≡ withPolicies g ps s t
+    unfolding withPolicies judged
+    second-bad k = rw (readable-by g s e h .reads, stopped (instance g t) f k)
+
+    pub both-read : {r v : ℕ} → y ≡ Next r → v ≡ compared g ps (instanceOf g s) (instanceOf g t) → success v ≡ withPolicies g ps s t
+    unfolding withPolicies judged
+    both-read k w = rw (readable-by g s e h .reads, readable-by g t f k .reads) (ap success w)
+
+-- ---- policies and pass
+
+module _ (schema p t : List ℕ) (a b : ℕ) (s i : List ℕ) {x : PoliciesRead} (w : Told schema p x t) where
+  pub policies-bad : {n o : ℕ} → x ≡ Refused n o → refusal n 2 o ≡ withSchema (schemaOf schema) p a b s i
+  unfolding withSchema judged
+  policies-bad h = rw (refused-policies schema p t w h)
+
+  module _ {c : ℕ} (h : x ≡ Policies c) {y : Step} (f : y ≡ stepOf (pass a b)) where
+    pub pass-bad : {n o : ℕ} → y ≡ Bad n o → refusal n 3 o ≡ withSchema (schemaOf schema) p a b s i
+    unfolding withSchema judged
+    pass-bad k = rw (accepted-policies schema p t w h .1, stopped (pass a b) f k)
+
+    pub pass-ok : {q : ℕ} {r : Answer} → y ≡ Next q → r ≡ withPolicies (schemaOf schema) (forced a b (policiesOf (schemaOf schema) p)) s i → r ≡ withSchema (schemaOf schema) p a b s i
+    unfolding withSchema judged
+    pass-ok k v = rw (accepted-policies schema p t w h .1, stepped (pass a b) f k .1) v
+
+-- ---- the schema
+
+module _ (f p : List ℕ) (a b : ℕ) (s t : List ℕ) {x : Step} (e : x ≡ stepOf (schema f)) where
+  pub schema-bad : {n o : ℕ} → x ≡ Bad n o → refusal n 1 o ≡ comparing f p a b s t
+  unfolding comparing judged
+  schema-bad h = rw (stopped (schema f) e h)
+
+  pub schema-ok : {q : ℕ} {r : Answer} → x ≡ Next q → r ≡ withSchema (schemaOf f) p a b s t → r ≡ comparing f p a b s t
+  unfolding comparing withSchema withPolicies judged
+  schema-ok h v = rw (schema-got f e h) v
+
+pub ruleset calling = (first-bad, second-bad, both-read, policies-bad, pass-bad, pass-ok, schema-bad, schema-ok)

@@ -1,0 +1,4 @@
+pub mod Better
+pub mod Good
+pub mod Flagging
+pub mod Call

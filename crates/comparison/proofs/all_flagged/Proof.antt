@@ -1,0 +1,61 @@
+-- Whether the successors from j on are flagged equals whether all are.
+-- Rests on the laws of the loop over the successors, in Good.
+use borrow.Author.Needs.{needs}
+use mathlib.Core.Path.{_≡_}
+use Prim.Native.Nat.{_-_}
+use lib.ListN.{drop}
+use Rattle.schema.specs.Schema.{schemaOf, nodeAt}
+use Rattle.model.specs.Satisfaction.{every}
+use Rattle.comparison.specs.Comparison.{flagged}
+use Rattle.comparison.proofs.Good.{successor-small, all-no, all-more, all-done}
+use Rattle.comparison.proofs.all_flagged.Statement.{statement}
+use Rattle.comparison.proofs.all_flagged.Tie as tie
+
+abbrev Inv-loop : tie.InvT-loop
+Inv-loop schema table n flags c j₀ j = every (flagged flags) (drop j (nodeAt (schemaOf schema) n .successors)) ≡ every (flagged flags) (nodeAt (schemaOf schema) n .successors)
+
+abbrev μ-loop : tie.MeasureT-loop
+μ-loop schema table n flags c j₀ j = c - j
+
+successor-count-requires : tie.Need-successor-count-requires Inv-loop μ-loop
+successor-count-requires c κs = search needs
+
+loop-holds : tie.Need-loop-holds Inv-loop μ-loop
+loop-holds c = search needs
+
+successor-of-requires : tie.Need-successor-of-requires Inv-loop μ-loop
+successor-of-requires c κs = search needs
+
+element-copy-out-if1 : tie.Need-element-copy-out-if1 Inv-loop μ-loop
+element-copy-out-if1 c = search successor-small
+
+returns : tie.Need-returns Inv-loop μ-loop
+returns c = search all-no
+
+add-j : tie.Need-add-j Inv-loop μ-loop
+add-j c = search needs
+
+loop-less : tie.Need-loop-less Inv-loop μ-loop
+loop-less c = search needs
+
+loop-again : tie.Need-loop-again Inv-loop μ-loop
+loop-again c = search all-more
+
+returns-2 : tie.Need-returns-2 Inv-loop μ-loop
+returns-2 c = search all-done
+
+pub all-flagged-spec : {M : Type 1} → statement M
+all-flagged-spec =
+    tie.close
+    (tie.spec
+    Inv-loop
+    μ-loop
+    successor-count-requires
+    loop-holds
+    successor-of-requires
+    element-copy-out-if1
+    returns
+    add-j
+    loop-less
+    loop-again
+    returns-2)

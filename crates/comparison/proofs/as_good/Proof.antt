@@ -1,0 +1,70 @@
+-- From node n up the flags of the reached nodes are right.
+-- Rests on the laws of the pass over the nodes, in Flagging.
+use borrow.Author.Needs.{needs}
+use Rattle.comparison.proofs.Flagging.{Flagging, flagging-start, flagging-node, flagging-small, flagging-more, flagging-done}
+use Rattle.comparison.proofs.as_good.Statement.{statement}
+use Rattle.comparison.proofs.as_good.Tie as tie
+
+abbrev Inv-loop : tie.InvT-loop
+Inv-loop schema table p index list rows a b s t x y flags₀ n₀ flags n = Flagging schema p s t a b flags n
+
+abbrev μ-loop : tie.MeasureT-loop
+μ-loop schema table p index list rows a b s t x y flags₀ n₀ flags n = n
+
+choices-requires : tie.Need-choices-requires Inv-loop μ-loop
+choices-requires c κs = search needs
+
+choices-requires-2 : tie.Need-choices-requires-2 Inv-loop μ-loop
+choices-requires-2 c κs = search needs
+
+count-of-requires : tie.Need-count-of-requires Inv-loop μ-loop
+count-of-requires c κs = search needs
+
+loop-holds : tie.Need-loop-holds Inv-loop μ-loop
+loop-holds c = search flagging-start
+
+sub-n : tie.Need-sub-n Inv-loop μ-loop
+sub-n c = search needs
+
+is-good-requires : tie.Need-is-good-requires Inv-loop μ-loop
+is-good-requires c κs = search (flagging-node, needs)
+
+flag-requires : tie.Need-flag-requires Inv-loop μ-loop
+flag-requires c κs = search needs
+
+array-write-flags : tie.Need-array-write-flags Inv-loop μ-loop
+array-write-flags c = search flagging-small
+
+loop-less : tie.Need-loop-less Inv-loop μ-loop
+loop-less c = search needs
+
+loop-again : tie.Need-loop-again Inv-loop μ-loop
+loop-again c =
+    flagging-more _ _ _ _ _ _ _ _ (c .before .before .before .before .before .before .loop .inv) (c .before .before .before .before .before .loop-test .taken)
+    (c .before .before .before .before .before .before .before .before .before .choices .ensures) (c .before .before .before .before .before .before .before .before .choices2 .ensures)
+    (c .before .is-good .ensures) (c .flag .ensures)
+
+array-read-result : tie.Need-array-read-result Inv-loop μ-loop
+array-read-result c = search needs
+
+returns : tie.Need-returns Inv-loop μ-loop
+returns c = search flagging-done
+
+pub as-good-spec : {M : Type 1} → statement M
+as-good-spec =
+    tie.close
+    (tie.spec
+    Inv-loop
+    μ-loop
+    choices-requires
+    choices-requires-2
+    count-of-requires
+    loop-holds
+    sub-n
+    is-good-requires
+    flag-requires
+    array-write-flags
+    loop-less
+    loop-again
+    array-read-result
+    returns)

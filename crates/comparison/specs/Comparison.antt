@@ -1,0 +1,49 @@
+-- What the parts of the comparison compute (01, 'The order', 'Checking and comparing').
+use Prim.Native.Nat.{ℕ}
+use mathlib.Core.Path.{_≡_}
+use mathlib.Core.List.{List}
+use mathlib.Core.Bool.{Bool, cond, _&&_, _||_}
+use lib.Dec.{eqb, ltb}
+use lib.ListN.{getD}
+use Rattle.fields.specs.declared.Answer.{Answer}
+use Rattle.fields.specs.Answers.{judged, success}
+use Rattle.schema.specs.Schema.{Node, nodeAt, schemaOf}
+use Rattle.policies.specs.Policies.{Policy, policies, policiesOf}
+use Rattle.policies.specs.Pass.{pass, forced}
+use Rattle.policies.specs.Index.{indexOf}
+use Rattle.instances.specs.Instance.{chooses}
+use Rattle.instances.specs.File.{instance}
+use Rattle.model.specs.Satisfaction.{every}
+use Rattle.model.specs.Comparing.{compared}
+use Rattle.conditions.specs.Held.{InForce}
+
+-- the index of the file p, and the policies in force
+pub record Ranking (schema p index list : List ℕ) (rows a b : ℕ) : Type 0 where
+  pub index-is : index ≡ indexOf (policiesOf (schemaOf schema) p)
+  pub in-force : InForce schema p list rows a b
+
+-- a table of flags, as a test of nodes
+unfoldable pub flagged : List ℕ → ℕ → Bool
+flagged flags s = ltb s 64 && eqb (getD flags s 0) 1
+
+-- the choices are x and y, and h tells of the nodes above: the clause for a node that chooses
+unfoldable pub byChoice : (ℕ → ℕ → ℕ → Bool) → (ℕ → Bool) → ℕ → ℕ → ℕ → Bool
+byChoice better h n x y = better n x y || eqb x y && h x
+
+-- all clauses
+unfoldable pub byNode : List Node → (ℕ → ℕ → ℕ → Bool) → (ℕ → Bool) → ℕ → ℕ → ℕ → Bool
+byNode g better h n x y = cond (chooses (nodeAt g n)) (byChoice better h n x y) (every h (nodeAt g n .successors))
+
+-- the call, once schema, policies and pass are accepted, ps being the policies in force
+unfoldable pub withPolicies : List Node → List Policy → List ℕ → List ℕ → Answer
+withPolicies g ps s t =
+    judged 4 (instance g s) λ i.
+    judged 5 (instance g t) λ j.
+    success (compared g ps i j)
+
+-- once the schema is
+unfoldable pub withSchema : List Node → List ℕ → ℕ → ℕ → List ℕ → List ℕ → Answer
+withSchema g p a b s t =
+    judged 2 (policies g p) λ ps.
+    judged 3 (pass a b) λ _.
+    withPolicies g (forced a b ps) s t

@@ -1,0 +1,349 @@
+// The comparison of two instances: nodes from the highest to 0, each once.
+ghost use mathlib.Core.Path.{_≡_};
+ghost use mathlib.Core.Bool.{cond};
+ghost use lib.ListN.{getD};
+ghost use Rattle.schema.specs.Schema.{schemaOf, nodeAt};
+ghost use Rattle.schema.specs.Table.{tableOf, Accepted, NodeIn};
+ghost use Rattle.policies.specs.Policies.{policiesOf, rankOf};
+ghost use Rattle.policies.specs.Pass.{forced};
+ghost use Rattle.policies.specs.Index.{PolicyIn, Indexed, policyOf};
+ghost use Rattle.instances.specs.Lookup.{instanceOf, Readable};
+ghost use Rattle.model.specs.Satisfaction.{columnOf, every};
+ghost use Rattle.model.specs.Order.{better, asGood};
+ghost use Rattle.model.specs.Comparing.{verdict, compared};
+ghost use Rattle.calls.specs.Calls.{comparing};
+ghost use Rattle.comparison.specs.Comparison.{Ranking, flagged, byChoice, byNode, withSchema, withPolicies};
+use fields::Answer;
+use fields::Step;
+use policies::PoliciesRead;
+
+// The place of x among node n's successors, their number where it is none of them.
+fn column_of(schema: &[u8], table: &[usize; 320], n: usize, x: usize) -> usize
+    requires { ⌜ NodeIn (now schema) (now table) n ⌝ }
+    ensures { λ r. ⌜ r ≡ columnOf x (nodeAt (schemaOf (now (schema .entry))) n .successors) ⌝ }
+{
+    let c = schema::successor_count(schema, table, n);
+    let mut j: usize = 0;
+    while j < c {
+        if schema::successor_of(schema, table, n, j) == x {
+            return j;
+        }
+        j += 1;
+    }
+    j
+}
+
+// Policy j's rank in column k of node n, 0 where there is no such column.
+fn rank_at(
+    schema: &[u8],
+    table: &[usize; 320],
+    p: &[u8],
+    index: &[usize; 1040],
+    j: usize,
+    n: usize,
+    k: usize,
+) -> u8
+    requires { ⌜ NodeIn (now schema) (now table) n ⌝ }
+    requires { ⌜ PolicyIn (now schema) (now p) (now index) j ⌝ }
+    ensures { λ r. ⌜ r ≡ rankOf (policyOf (now (schema .entry)) (now (p .entry)) j) n k ⌝ }
+{
+    if k < policies::rank_count(schema, table, n) {
+        return policies::rank_of(schema, p, index, j, n, k);
+    }
+    0
+}
+
+// Whether x is better than y at node n.
+fn is_better(
+    schema: &[u8],
+    table: &[usize; 320],
+    p: &[u8],
+    index: &[usize; 1040],
+    list: &[usize; 16],
+    rows: usize,
+    a: u16,
+    b: u16,
+    n: usize,
+    x: usize,
+    y: usize,
+) -> bool
+    requires { ⌜ NodeIn (now schema) (now table) n ⌝ }
+    requires { ⌜ Ranking (now schema) (now p) (now index) (now list) rows a b ⌝ }
+    ensures { λ r. ⌜ r ≡ better (schemaOf (now (schema .entry))) (forced a b (policiesOf (schemaOf (now (schema .entry))) (now (p .entry)))) n x y ⌝ }
+{
+    let c = column_of(schema, table, n, x);
+    let d = column_of(schema, table, n, y);
+    let mut r: usize = 0;
+    while r < rows {
+        let s = rank_at(schema, table, p, index, list[r], n, c);
+        let t = rank_at(schema, table, p, index, list[r], n, d);
+        if s < t {
+            return true;
+        }
+        if t < s {
+            return false;
+        }
+        r += 1;
+    }
+    x < y
+}
+
+// Whether every successor of node n is flagged.
+fn all_flagged(schema: &[u8], table: &[usize; 320], n: usize, flags: &[u8; 64]) -> bool
+    requires { ⌜ NodeIn (now schema) (now table) n ⌝ }
+    ensures { λ r. ⌜ r ≡ every (flagged (now (flags .entry))) (nodeAt (schemaOf (now (schema .entry))) n .successors) ⌝ }
+{
+    let c = schema::successor_count(schema, table, n);
+    let mut j: usize = 0;
+    while j < c {
+        let s = schema::successor_of(schema, table, n, j);
+        if flags[s] != 1 {
+            return false;
+        }
+        j += 1;
+    }
+    true
+}
+
+// Whether node s is flagged; a number above all nodes is not.
+fn is_flagged(flags: &[u8; 64], s: usize) -> bool
+    ensures { λ r. ⌜ r ≡ flagged (now (flags .entry)) s ⌝ }
+{
+    if s < 64 {
+        return flags[s] == 1;
+    }
+    false
+}
+
+// Whether choice x is at least as good as y at node n, which chooses.
+fn is_good_choice(
+    schema: &[u8],
+    table: &[usize; 320],
+    p: &[u8],
+    index: &[usize; 1040],
+    list: &[usize; 16],
+    rows: usize,
+    a: u16,
+    b: u16,
+    n: usize,
+    x: usize,
+    y: usize,
+    flags: &[u8; 64],
+) -> bool
+    requires { ⌜ NodeIn (now schema) (now table) n ⌝ }
+    requires { ⌜ Ranking (now schema) (now p) (now index) (now list) rows a b ⌝ }
+    ensures { λ r. ⌜ r ≡ byChoice (better (schemaOf (now (schema .entry))) (forced a b (policiesOf (schemaOf (now (schema .entry))) (now (p .entry))))) (flagged (now (flags .entry))) n x y ⌝ }
+{
+    if x == y {
+        return is_flagged(flags, x);
+    }
+    is_better(schema, table, p, index, list, rows, a, b, n, x, y)
+}
+
+fn wide(x: u8) -> usize
+    ensures { λ r. ⌜ r ≡ x ⌝ }
+{
+    x as usize
+}
+
+// Whether the first instance is at least as good as the second at node n, by the flags of the nodes above it.
+fn is_good(
+    schema: &[u8],
+    table: &[usize; 320],
+    p: &[u8],
+    index: &[usize; 1040],
+    list: &[usize; 16],
+    rows: usize,
+    a: u16,
+    b: u16,
+    n: usize,
+    first: &[u8; 64],
+    second: &[u8; 64],
+    flags: &[u8; 64],
+) -> bool
+    requires { ⌜ NodeIn (now schema) (now table) n ⌝ }
+    requires { ⌜ Ranking (now schema) (now p) (now index) (now list) rows a b ⌝ }
+    ensures { λ r. ⌜ r ≡ byNode (schemaOf (now (schema .entry))) (better (schemaOf (now (schema .entry))) (forced a b (policiesOf (schemaOf (now (schema .entry))) (now (p .entry))))) (flagged (now (flags .entry))) n (getD (now (first .entry)) n 0) (getD (now (second .entry)) n 0) ⌝ }
+{
+    if instances::chooses(schema, table, n) {
+        let x = wide(first[n]);
+        let y = wide(second[n]);
+        return is_good_choice(schema, table, p, index, list, rows, a, b, n, x, y, flags);
+    }
+    all_flagged(schema, table, n, flags)
+}
+
+fn flag(yes: bool) -> u8
+    ensures { λ r. ⌜ r ≡ cond yes 1 0 ⌝ }
+{
+    if yes {
+        return 1;
+    }
+    0
+}
+
+// Whether the first instance is at least as good as the second.
+fn as_good(
+    schema: &[u8],
+    table: &[usize; 320],
+    p: &[u8],
+    index: &[usize; 1040],
+    list: &[usize; 16],
+    rows: usize,
+    a: u16,
+    b: u16,
+    s: &[u8],
+    t: &[u8],
+) -> bool
+    requires { ⌜ Accepted (now schema) ⌝ }
+    requires { ⌜ now table ≡ tableOf (schemaOf (now schema)) ⌝ }
+    requires { ⌜ Ranking (now schema) (now p) (now index) (now list) rows a b ⌝ }
+    requires { ⌜ Readable (schemaOf (now schema)) (now s) ⌝ }
+    requires { ⌜ Readable (schemaOf (now schema)) (now t) ⌝ }
+    ensures { λ r. ⌜ r ≡ asGood (schemaOf (now (schema .entry))) (forced a b (policiesOf (schemaOf (now (schema .entry))) (now (p .entry)))) (instanceOf (schemaOf (now (schema .entry))) (now (s .entry))) (instanceOf (schemaOf (now (schema .entry))) (now (t .entry))) ⌝ }
+{
+    let x = instances::choices(schema, table, s);
+    let y = instances::choices(schema, table, t);
+    let mut flags = [0u8; 64];
+    let mut n = schema::count_of(schema);
+    while 0 < n {
+        n -= 1;
+        let good = is_good(schema, table, p, index, list, rows, a, b, n, &x, &y, &flags);
+        flags[n] = flag(good);
+    }
+    flags[0] == 1
+}
+
+fn verdict_of(first: bool, second: bool) -> usize
+    ensures { λ r. ⌜ r ≡ verdict first second ⌝ }
+{
+    if first {
+        if second {
+            return 0;
+        }
+        return 1;
+    }
+    if second {
+        return 2;
+    }
+    3
+}
+
+// The verdict on two accepted instances.
+fn compare_accepted(
+    schema: &[u8],
+    table: &[usize; 320],
+    p: &[u8],
+    index: &[usize; 1040],
+    count: usize,
+    a: u16,
+    b: u16,
+    s: &[u8],
+    t: &[u8],
+) -> usize
+    requires { ⌜ Accepted (now schema) ⌝ }
+    requires { ⌜ now table ≡ tableOf (schemaOf (now schema)) ⌝ }
+    requires { ⌜ Indexed (now schema) (now p) (now index) count ⌝ }
+    requires { ⌜ Readable (schemaOf (now schema)) (now s) ⌝ }
+    requires { ⌜ Readable (schemaOf (now schema)) (now t) ⌝ }
+    ensures { λ r. ⌜ r ≡ compared (schemaOf (now (schema .entry))) (forced a b (policiesOf (schemaOf (now (schema .entry))) (now (p .entry)))) (instanceOf (schemaOf (now (schema .entry))) (now (s .entry))) (instanceOf (schemaOf (now (schema .entry))) (now (t .entry))) ⌝ }
+{
+    let mut list = [0usize; 16];
+    let rows = policies::list_in_force(schema, p, index, count, a, b, &mut list);
+    let first = as_good(schema, table, p, index, &list, rows, a, b, s, t);
+    let second = as_good(schema, table, p, index, &list, rows, a, b, t, s);
+    verdict_of(first, second)
+}
+
+// The instances, files 4 and 5, once schema, policies and pass are accepted.
+fn compare_instances(
+    schema: &[u8],
+    table: &[usize; 320],
+    p: &[u8],
+    index: &[usize; 1040],
+    count: usize,
+    a: u16,
+    b: u16,
+    s: &[u8],
+    t: &[u8],
+) -> Answer
+    requires { ⌜ Accepted (now schema) ⌝ }
+    requires { ⌜ now table ≡ tableOf (schemaOf (now schema)) ⌝ }
+    requires { ⌜ Indexed (now schema) (now p) (now index) count ⌝ }
+    ensures { λ r. ⌜ r ≡ withPolicies (schemaOf (now (schema .entry))) (forced a b (policiesOf (schemaOf (now (schema .entry))) (now (p .entry)))) (now (s .entry)) (now (t .entry)) ⌝ }
+{
+    match instances::read_instance(schema, table, s) {
+        Step::Bad { number, offset } => Answer {
+            number,
+            file: 4,
+            offset,
+            value: 0,
+        },
+        Step::Next { at: _ } => match instances::read_instance(schema, table, t) {
+            Step::Bad { number, offset } => Answer {
+                number,
+                file: 5,
+                offset,
+                value: 0,
+            },
+            Step::Next { at: _ } => Answer {
+                number: 0,
+                file: 0,
+                offset: 0,
+                value: compare_accepted(schema, table, p, index, count, a, b, s, t),
+            },
+        },
+    }
+}
+
+// Policies and pass, files 2 and 3, once the schema is accepted.
+fn compare_policies(schema: &[u8], p: &[u8], a: u16, b: u16, s: &[u8], t: &[u8]) -> Answer
+    requires { ⌜ Accepted (now schema) ⌝ }
+    ensures { λ r. ⌜ r ≡ withSchema (schemaOf (now (schema .entry))) (now (p .entry)) a b (now (s .entry)) (now (t .entry)) ⌝ }
+{
+    let table = schema::table_of(schema);
+    let nodes = schema::count_of(schema);
+    let mut index = [0usize; 1040];
+    match policies::read_policies(schema, &table, nodes, p, &mut index) {
+        PoliciesRead::Refused { number, offset } => Answer {
+            number,
+            file: 2,
+            offset,
+            value: 0,
+        },
+        PoliciesRead::Policies { count } => match policies::check_pass(a, b) {
+            Step::Bad { number, offset } => Answer {
+                number,
+                file: 3,
+                offset,
+                value: 0,
+            },
+            Step::Next { at: _ } => {
+                compare_instances(schema, &table, p, &index, count, a, b, s, t)
+            }
+        },
+    }
+}
+
+// The comparison: schema, policies, pass, first and second instance, then the verdict 0 alike, 1 first better,
+// 2 second better, 3 neither.
+pub fn compare(
+    schema: &[u8],
+    policies: &[u8],
+    a: u16,
+    b: u16,
+    first: &[u8],
+    second: &[u8],
+) -> Answer
+    ensures { λ r. ⌜ r ≡ comparing (now (schema .entry)) (now (policies .entry)) a b (now (first .entry)) (now (second .entry)) ⌝ }
+{
+    match schema::read_schema(schema) {
+        Step::Bad { number, offset } => Answer {
+            number,
+            file: 1,
+            offset,
+            value: 0,
+        },
+        Step::Next { at: _ } => compare_policies(schema, policies, a, b, first, second),
+    }
+}
