@@ -1,0 +1,74 @@
+// The calls for C and Rust: a slice passes as a pointer and a length.
+ghost use mathlib.Core.Path.{_≡_};
+ghost use Rattle.instances.specs.Copying.{copying};
+ghost use Rattle.calls.specs.Calls.{reconciling, checking, comparing};
+ghost use Rattle.exports.specs.Call.{Called};
+ghost use Rattle.exports.specs.Exported.{exported};
+use fields::Answer;
+
+// neulenta_answer of include/neulenta.h.
+#[repr(C)]
+pub struct Exported {
+    pub number: u32,
+    pub file: u32,
+    pub offset: u64,
+    pub value: u64,
+}
+
+fn export(r: Answer) -> Exported
+    ensures { λ e. ⌜ e ≡ exported r ⌝ }
+{
+    Exported {
+        number: r.number as u32,
+        file: r.file as u32,
+        offset: r.offset as u64,
+        value: r.value as u64,
+    }
+}
+
+#[no_mangle]
+pub extern "C" fn neulenta_copy(schema: &[u8], instance: &[u8], out: &mut [u8]) -> Exported
+    ensures { λ r. ⌜ Called (copying (now (schema .entry)) (now (instance .entry)) (now (out .entry))) r (now (out .exit)) ⌝ }
+{
+    export(instances::copy(schema, instance, out))
+}
+
+#[no_mangle]
+pub extern "C" fn neulenta_reconcile(
+    schema: &[u8],
+    policies: &[u8],
+    a: u16,
+    b: u16,
+    out: &mut [u8],
+) -> Exported
+    ensures { λ r. ⌜ Called (reconciling (now (schema .entry)) (now (policies .entry)) a b (now (out .entry))) r (now (out .exit)) ⌝ }
+{
+    export(reconciler::reconcile(schema, policies, a, b, out))
+}
+
+#[no_mangle]
+pub extern "C" fn neulenta_check(
+    schema: &[u8],
+    policies: &[u8],
+    a: u16,
+    b: u16,
+    instance: &[u8],
+) -> Exported
+    ensures { λ r. ⌜ r ≡ exported (checking (now (schema .entry)) (now (policies .entry)) a b (now (instance .entry))) ⌝ }
+{
+    export(checker::check(schema, policies, a, b, instance))
+}
+
+#[no_mangle]
+pub extern "C" fn neulenta_compare(
+    schema: &[u8],
+    policies: &[u8],
+    a: u16,
+    b: u16,
+    first: &[u8],
+    second: &[u8],
+) -> Exported
+    ensures { λ r. ⌜ r ≡ exported (comparing (now (schema .entry)) (now (policies .entry)) a b (now (first .entry)) (now (second .entry))) ⌝ }
+{
+    export(comparison::compare(schema, policies, a, b, first, second))
+}

@@ -1,0 +1,7 @@
+pub mod Record
+pub mod Decimal
+pub mod Hex
+pub mod Lengths
+pub mod Writing
+pub mod RoundTrip
+pub mod Cases

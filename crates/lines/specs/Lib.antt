@@ -1,0 +1,3 @@
+pub mod Record
+pub mod Line
+pub mod ReadBack
