@@ -1,0 +1,374 @@
+//! 01, 'Cases to hold the definitions to' and one case or more for each row of 'Where a number
+//! arises', as a table to which any program after 01 can be held.
+
+use crate::compare::{ALIKE, FIRST_BETTER, NEITHER, SECOND_BETTER};
+use crate::{Answer, check, compare, copy, reconcile};
+
+/// The calls of 01.
+#[derive(Clone, Copy, Debug, PartialEq, Eq, PartialOrd, Ord, Hash)]
+pub enum Call {
+    /// The copying call.
+    Copy,
+    /// The reconciler.
+    Reconcile,
+    /// The checker.
+    Check,
+    /// The comparison.
+    Compare,
+}
+
+/// What calls take; a call leaves alone what it does not take.
+#[derive(Clone, Copy, Debug, Default)]
+pub struct Input<'a> {
+    /// File 1.
+    pub schema: &'a [u8],
+    /// File 2.
+    pub policies: &'a [u8],
+    /// The pass.
+    pub pass: (u16, u16),
+    /// File 4.
+    pub first: &'a [u8],
+    /// File 5.
+    pub second: &'a [u8],
+}
+
+impl Call {
+    /// Every call.
+    pub const ALL: [Call; 4] = [Call::Copy, Call::Reconcile, Call::Check, Call::Compare];
+
+    /// The answer of this crate's call; a call without buffer leaves `out` as it is.
+    pub fn answer(self, input: &Input, out: &mut [u8]) -> Answer {
+        let Input { schema, policies, pass: (a, b), first, second } = *input;
+        match self {
+            Call::Copy => copy(schema, first, out),
+            Call::Reconcile => reconcile(schema, policies, a, b, out),
+            Call::Check => check(schema, policies, a, b, first),
+            Call::Compare => compare(schema, policies, a, b, first, second),
+        }
+    }
+}
+
+/// One line of the table.
+#[derive(Clone, Debug)]
+pub struct Case {
+    /// What the case is about.
+    pub name: &'static str,
+    /// The call.
+    pub call: Call,
+    files: [Vec<u8>; 4],
+    pass: (u16, u16),
+    room: usize,
+    answer: Answer,
+    written: Vec<u8>,
+}
+
+impl Case {
+    /// Demands of a program's `call` the answer and the whole buffer of this case.
+    pub fn demand(&self, call: impl FnOnce(Call, &Input, &mut [u8]) -> Answer) {
+        let [schema, policies, first, second] = &self.files;
+        let input = Input { schema, policies, pass: self.pass, first, second };
+        let mut out: Vec<u8> = (0..self.room).map(|index| index as u8 ^ 0xa5).collect();
+        let mut expected = out.clone();
+        expected[..self.written.len()].copy_from_slice(&self.written);
+        let answer = call(self.call, &input, &mut out);
+        assert_eq!(answer, self.answer, "{}", self.name);
+        assert_eq!(out, expected, "{}: buffer", self.name);
+    }
+
+    /// The number that the case is about, 0 for success.
+    pub fn number(&self) -> u32 {
+        self.answer.number
+    }
+
+    fn on(call: Call, name: &'static str, schema: &str, policies: &str, pass: (u16, u16)) -> Self {
+        let files = [hex(schema), hex(policies), Vec::new(), Vec::new()];
+        Case { name, call, files, pass, room: 1_283, answer: Answer::success(0), written: vec![] }
+    }
+
+    fn instance(mut self, instance: &str) -> Self {
+        self.files[2] = hex(instance);
+        self
+    }
+
+    fn second(mut self, instance: &str) -> Self {
+        self.files[3] = hex(instance);
+        self
+    }
+
+    fn room(mut self, room: usize) -> Self {
+        self.room = room;
+        self
+    }
+
+    fn gives(mut self, value: u64) -> Self {
+        self.answer = Answer::success(value);
+        self
+    }
+
+    fn writes(mut self, file: &str) -> Self {
+        self.written = hex(file);
+        self.answer = Answer::success(self.written.len() as u64);
+        self
+    }
+
+    fn refuses(mut self, number: u32, file: u32, offset: u64) -> Self {
+        self.answer = Answer::refusal(number, file, offset);
+        self
+    }
+}
+
+/// The bytes that 01 writes as hexadecimal digits parted by spaces.
+pub fn hex(digits: &str) -> Vec<u8> {
+    let digits: Vec<u8> =
+        digits.chars().filter_map(|digit| digit.to_digit(16)).map(|digit| digit as u8).collect();
+    digits.chunks(2).map(|pair| pair[0] << 4 | pair[1]).collect()
+}
+
+/// 01's schema.bin.
+pub const SCHEMA: &str = "534803 534E0102010200 534E01000100000000010000000A 534E010000";
+/// 01's policies.bin.
+pub const POLICIES: &str =
+    "50480064006401 504E000005 5048006500C802 504E000100 504E010000000400000008";
+/// The instance of 01's line one.
+pub const LINE_ONE: &str = "494802 494e0001 494e01ff00000001";
+
+const THIRD: &str = "50480064006401 504E01000000140000001E";
+const FOURTH: &str = "50480064006401 504E0000FF";
+
+/// A leaf of one listed variable of size 5, and of size 32.
+const SIZE_5: &str = "534801 534E0100010105";
+const SIZE_32: &str = "534801 534E0100010120";
+/// Node 0 all {1,2}, node 1 one {2,3}.
+const SHARED: &str = "534804 534E0002010200 534E0102020300 534E010000 534E010000";
+/// Node 0 all {1,2}, nodes 1 and 2 one {3,4}.
+const TWO_CHOICES: &str =
+    "534805 534E0002010200 534E0102030400 534E0102030400 534E010000 534E010000";
+
+/// All cases.
+pub fn all() -> Vec<Case> {
+    let definitions = [worked(), definitions(), order()].concat();
+    let rows = [schema_rows(), policy_rows(), pass_rows(), instance_rows(), last_rows()].concat();
+    [definitions, rows].concat()
+}
+
+fn reconciled(name: &'static str, policies: &str, pass: (u16, u16)) -> Case {
+    Case::on(Call::Reconcile, name, SCHEMA, policies, pass)
+}
+
+fn worked() -> Vec<Case> {
+    let third = [POLICIES, THIRD].concat();
+    let fourth = [POLICIES, THIRD, FOURTH].concat();
+    vec![
+        reconciled("line one", POLICIES, (100, 100)).writes(LINE_ONE),
+        reconciled("line two: both days", POLICIES, (100, 101))
+            .writes("494802494e0001494e01ff00000004"),
+        reconciled("line three", POLICIES, (101, 101)).writes("494802494e0002494e02ff"),
+        reconciled("line four: b below a", POLICIES, (101, 100)).refuses(12, 3, 0),
+        reconciled("no policy in force", POLICIES, (300, 300)).writes(LINE_ONE),
+        reconciled("b above a + 1", POLICIES, (100, 102)).refuses(12, 3, 0),
+        reconciled("best-ranked successor cannot be met", &third, (100, 100))
+            .writes("494802494e0002494e02ff"),
+        reconciled("no instance meets the policies", &fourth, (100, 100)).refuses(13, 0, 0),
+        reconciled("13 before 14", &fourth, (100, 100)).room(0).refuses(13, 0, 0),
+        reconciled("15 bytes suffice", POLICIES, (100, 100)).room(15).writes(LINE_ONE),
+        reconciled("14 bytes don't", POLICIES, (100, 100)).room(14).refuses(14, 0, 0),
+        reconciled("an empty buffer", POLICIES, (100, 100)).room(0).refuses(14, 0, 0),
+        reconciled("a longer buffer", POLICIES, (100, 100)).room(3_000).writes(LINE_ONE),
+        Case::on(Call::Reconcile, "empty schema", "", POLICIES, (101, 100)).refuses(2, 1, 0),
+        Case::on(Call::Copy, "line one copied", SCHEMA, "", (0, 0))
+            .instance(LINE_ONE)
+            .room(15)
+            .writes(LINE_ONE),
+        Case::on(Call::Copy, "line one copied into 14 bytes", SCHEMA, "", (0, 0))
+            .instance(LINE_ONE)
+            .room(14)
+            .refuses(14, 0, 0),
+        Case::on(Call::Check, "line one accepted", SCHEMA, POLICIES, (100, 100)).instance(LINE_ONE),
+    ]
+}
+
+fn definitions() -> Vec<Case> {
+    let below_zero = "534801 534E01000100FFFFFFFBFFFFFFFF";
+    let root = |said: &str| ["5048 00000000 01 504E00", said].concat();
+    let on =
+        |name, schema, policies: &str| Case::on(Call::Reconcile, name, schema, policies, (0, 0));
+    vec![
+        on("signed bounds", below_zero, &root("FFFFFFFD 0000000A"))
+            .writes("494801 494e00ff fffffffd"),
+        on("lo above hi", below_zero, &root("FFFFFFFE FFFFFFFD")).refuses(13, 0, 0),
+        on("the highest bit of 32", SIZE_32, &[root("80000000"), root("C0000000")].concat())
+            .writes("494801 494e00ff 1f"),
+        on("bit 4 of size 5", SIZE_5, &root("00000010")).writes("494801 494e00ff 04"),
+        on("bit 5 of size 5", SIZE_5, &root("00000020")).refuses(11, 2, 10),
+        on("an empty mask", SIZE_5, &root("00000000")).refuses(13, 0, 0),
+        on("choosing 3 reaches all four", SHARED, "5048 00000000 01 504E01 0100")
+            .writes("494804 494e00ff 494e0103 494e02ff 494e03ff"),
+        Case::on(Call::Copy, "a shared node is reached once", SHARED, "", (0, 0))
+            .instance("494803 494e00ff 494e0102 494e02ff")
+            .writes("494803 494e00ff 494e0102 494e02ff"),
+    ]
+}
+
+/// Two instances of `TWO_CHOICES` under `policies`.
+fn pair(name: &'static str, policies: &str, first: &str, second: &str) -> Case {
+    let instance = |choices: &str| match choices {
+        "33" => "494804 494e00ff 494e0103 494e0203 494e03ff",
+        "34" => "494805 494e00ff 494e0103 494e0204 494e03ff 494e04ff",
+        "43" => "494805 494e00ff 494e0104 494e0203 494e03ff 494e04ff",
+        _ => "494804 494e00ff 494e0104 494e0204 494e04ff",
+    };
+    Case::on(Call::Compare, name, TWO_CHOICES, policies, (7, 7))
+        .instance(instance(first))
+        .second(instance(second))
+}
+
+fn order() -> Vec<Case> {
+    let four = "5048 00070007 01 504E01 0100";
+    let four_forbidden = "5048 00070007 01 504E01 00FF";
+    let both_forbidden = "5048 00070007 01 504E01 FFFF";
+    let not_in_force = "5048 00080009 01 504E01 0100";
+    let same_ranks = "5048 00070007 01 504E01 0909";
+    vec![
+        pair("each better at one", "", "34", "43").gives(NEITHER),
+        pair("the same choices", "", "34", "34").gives(ALIKE),
+        pair("the lower number is better", "", "33", "34").gives(FIRST_BETTER),
+        pair("the second has the lower number", "", "44", "34").gives(SECOND_BETTER),
+        pair("a rank outweighs the number", four, "33", "43").gives(SECOND_BETTER),
+        pair("a policy not in force", not_in_force, "33", "43").gives(FIRST_BETTER),
+        pair("255 ranks as worst", four_forbidden, "43", "33").gives(SECOND_BETTER),
+        pair("255 twice is no difference", both_forbidden, "43", "33").gives(SECOND_BETTER),
+        pair("after equal ranks the next policy", &[both_forbidden, four].concat(), "43", "33")
+            .gives(FIRST_BETTER),
+        pair("the earlier policy has precedence", &[four_forbidden, four].concat(), "43", "33")
+            .gives(SECOND_BETTER),
+        pair("equal ranks leave it to the number", same_ranks, "33", "43").gives(FIRST_BETTER),
+        pair("better at both", four, "43", "34").gives(FIRST_BETTER),
+    ]
+}
+
+fn schema_rows() -> Vec<Case> {
+    let row = |name, schema, number, offset| {
+        Call::ALL.map(|call| Case::on(call, name, schema, "", (0, 0)).refuses(number, 1, offset))
+    };
+    [
+        row("SH mark", "534903 534E", 1, 0),
+        row("half a mark", "50", 2, 0),
+        row("SH count missing", "5348", 2, 2),
+        row("SH count zero", "534800", 3, 2),
+        row("SH count above 64", "534841", 3, 2),
+        row("SN mark", "534801 534F", 1, 3),
+        row("SN mark missing", "534801", 2, 3),
+        row("SN kind above 1", "534801 534E02", 4, 5),
+        row("SN c above 8", "534801 534E0109", 4, 6),
+        row("SN c 0 under kind 0", "534801 534E0000", 4, 6),
+        row("SN successor its own node", "534803 534E010100", 5, 7),
+        row("SN successors equal", "534803 534E01020101", 5, 8),
+        row("SN successors descending", "534803 534E01020201", 5, 8),
+        row("SN successor not below count", "534803 534E01020103", 5, 8),
+        row("SN v above 4", "534801 534E010005", 6, 7),
+        row("SN type above 1", "534801 534E01000102", 6, 8),
+        row("SN lo incomplete", "534801 534E01000100 800000", 2, 9),
+        row("SN hi incomplete", "534801 534E01000100 00000000 7FFFFF", 2, 13),
+        row("SN hi below lo", "534801 534E01000100 00000000 FFFFFFFF", 6, 13),
+        row("SN size 0", "534801 534E01000101 00", 6, 9),
+        row("SN size above 32", "534801 534E01000101 21", 6, 9),
+        row("a byte after the schema", "534801 534E010000 53", 7, 8),
+        row("a node more than the count", "534801 534E010000 534E010000", 7, 8),
+    ]
+    .concat()
+}
+
+fn policy_rows() -> Vec<Case> {
+    let row = |name, policies: &str, number, offset| {
+        reconciled(name, policies, (100, 100)).refuses(number, 2, offset)
+    };
+    let sixteen = "5048 0000FFFF 00".repeat(16);
+    let mask = |name, mask, offset| {
+        Case::on(Call::Reconcile, name, SIZE_5, mask, (0, 0)).refuses(11, 2, offset)
+    };
+    vec![
+        reconciled("sixteen policies", &sixteen, (65_535, 65_535)).writes(LINE_ONE),
+        row("PH mark", "5049", 1, 0),
+        row("a stray byte", "00", 2, 0),
+        row("a byte after a policy", "5048 00000000 00 00", 2, 7),
+        row("two bytes after a policy", "5048 00000000 00 0000", 1, 7),
+        row("PH first incomplete", "5048 00", 2, 2),
+        row("PH last incomplete", "5048 0001 00", 2, 4),
+        row("PH last below first", "5048 0001 0000", 9, 4),
+        row("PH n missing", "5048 0000 0000", 2, 6),
+        row("PN missing", "5048 00000000 01", 2, 7),
+        row("PN mark", "5048 00000000 01 5048", 1, 7),
+        row("PN node missing", "5048 00000000 01 504E", 2, 9),
+        row("PN node not below count", "5048 00000000 01 504E03", 10, 9),
+        row("PN node twice", "5048 00000000 02 504E02 504E02", 10, 12),
+        row("PN nodes descending", "5048 00000000 02 504E02 504E00", 10, 12),
+        row("PN rank missing", "5048 00000000 01 504E00 00", 2, 11),
+        row("PN lo incomplete", "5048 00000000 01 504E01 000000", 2, 10),
+        row("PN hi incomplete", "5048 00000000 01 504E01 00000000 000000", 2, 14),
+        mask("PN mask beyond its size", "5048 00000000 01 504E00 80000000", 10),
+        row("before a 17th PH", &[&sixteen, "5048"].concat(), 8, 112),
+        row("whatever the byte is", &[&sixteen, "00"].concat(), 8, 112),
+    ]
+}
+
+fn pass_rows() -> Vec<Case> {
+    let last_day = "5048 FFFFFFFF 01 504E00 FF00";
+    let chooses_2 = "494802 494e0002 494e02ff";
+    vec![
+        reconciled("the last day alone", last_day, (65_535, 65_535)).writes(chooses_2),
+        reconciled("up to the last day", last_day, (65_534, 65_535)).writes(chooses_2),
+        reconciled("no day after the last", last_day, (65_535, 0)).refuses(12, 3, 0),
+        reconciled("policies before pass", "5049", (2, 0)).refuses(1, 2, 0),
+        Case::on(Call::Check, "pass before instance", SCHEMA, POLICIES, (2, 0)).refuses(12, 3, 0),
+        Case::on(Call::Compare, "pass before instances", SCHEMA, POLICIES, (2, 4))
+            .refuses(12, 3, 0),
+    ]
+}
+
+fn instance_rows() -> Vec<Case> {
+    let of = |name, schema, instance, number, offset| {
+        [Call::Copy, Call::Check].map(|call| {
+            Case::on(call, name, schema, "", (0, 0)).instance(instance).refuses(number, 4, offset)
+        })
+    };
+    let row = |name, instance, number, offset| of(name, SCHEMA, instance, number, offset);
+    [
+        row("instance missing", "", 2, 0),
+        row("IH mark", "4949", 1, 0),
+        row("IH m missing", "4948", 2, 2),
+        row("no entry", "494800", 15, 2),
+        row("an entry too few", "494801 494e0001", 15, 2),
+        row("15 at m before 7", "494801 494e0001 494e01ff00000004", 15, 2),
+        row("IN missing", "494801", 2, 3),
+        row("IN mark", "494801 4949", 1, 3),
+        row("IN node missing", "494801 494e", 2, 5),
+        row("IN node not the lowest reached", "494801 494e01", 15, 5),
+        row("IN node not reached", "494802 494e0002 494e01", 15, 9),
+        row("none is left", "494803 494e0002 494e02ff 494e02", 15, 13),
+        row("the extra entry's mark first", "494803 494e0002 494e02ff 4e4e", 1, 11),
+        row("IN choice missing", "494801 494e00", 2, 6),
+        row("IN choice no successor", "494801 494e0003", 16, 6),
+        row("IN choice of a leaf", "494802 494e0001 494e0100", 16, 10),
+        row("IN choice beyond all nodes", "494801 494e00ff", 16, 6),
+        of("IN choice of kind 0", SHARED, "494801 494e0001", 16, 6),
+        row("IN value incomplete", "494802 494e0001 494e01ff 000000", 2, 11),
+        row("IN value below the domain", "494802 494e0001 494e01ff 00000000", 17, 11),
+        row("IN value above the domain", "494802 494e0001 494e01ff 0000000b", 17, 11),
+        of("IN value at size", SIZE_5, "494801 494e00ff 05", 17, 7),
+        row("a byte after the instance", "494802 494e0002 494e02ff 00", 7, 11),
+    ]
+    .concat()
+}
+
+fn last_rows() -> Vec<Case> {
+    let check = |name, policies, pass, instance| {
+        Case::on(Call::Check, name, SCHEMA, policies, pass).instance(instance)
+    };
+    vec![
+        check("18 at the value", POLICIES, (100, 101), LINE_ONE).refuses(18, 4, 11),
+        check("18 at the choice", FOURTH, (100, 100), "494802 494e0002 494e02ff").refuses(18, 4, 6),
+        check("7 before 18", POLICIES, (100, 101), &[LINE_ONE, "00"].concat()).refuses(7, 4, 15),
+        pair("first before second", "", "33", "34").instance("").second("").refuses(2, 4, 0),
+        pair("file 5", "", "33", "34").second("494801 494e00").refuses(2, 5, 6),
+    ]
+}
