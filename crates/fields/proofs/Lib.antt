@@ -4,3 +4,5 @@ pub mod Loops
 pub mod Back
 pub mod Signed
 pub mod Bytes
+pub mod At
+pub mod Refusals

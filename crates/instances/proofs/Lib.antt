@@ -1,7 +1,6 @@
 pub mod Valid
 pub mod Lengths
 pub mod Planned
-pub mod At
 pub mod Trip
 pub mod RoundTrip
 pub mod Refusals

@@ -31,7 +31,7 @@ use Rattle.schema.proofs.Accepted.{sound}
 use Rattle.instances.specs.Instance.{Entry, inDomain, inDomains, has, RightEntry, Ascending, IsInstance}
 use Rattle.instances.specs.File.{IH, IN, valueWidth, instance, encodeValue, encodeValues, encodeEntry, encodeEntries}
 use Rattle.instances.specs.Lookup.{entriesIn, instanceOf, Readable, valuesWidth, fillChoices, choicesOf}
-use Rattle.instances.proofs.At.{At, at-parts, at-inside, at-self, spell-read}
+use Rattle.fields.proofs.At.{At, at-parts, at-inside, at-self, spell-read}
 use Rattle.instances.proofs.Valid.{has-mem}
 use Rattle.instances.proofs.Lengths.{entry-length}
 use Rattle.instances.proofs.Trip.{Small, encode-nest, entry-nest}

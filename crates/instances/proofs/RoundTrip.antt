@@ -19,7 +19,7 @@ use Rattle.schema.specs.declared.Variable.the-variants.{Number, Listed}
 use Rattle.schema.proofs.Sound.{Sound}
 use Rattle.instances.specs.Instance.{Entry, elem, chooses, rightChoice, Reached, root, on, Ascending, IsInstance}
 use Rattle.instances.specs.File.{IH, IN, instance, encodeValue, encodeValues, encodeEntry, encodeEntries, encode}
-use Rattle.instances.proofs.At.{bytes-both, bytes-none, bytes-one, spell-bytes}
+use Rattle.fields.proofs.At.{bytes-both, bytes-none, bytes-one, spell-bytes}
 use Rattle.instances.proofs.Valid.{successor-in, sound-variables, reaches-in, follows-is, is-follows}
 use Rattle.instances.proofs.Lengths.{encode-length}
 use Rattle.instances.proofs.Trip.{Small, follows-read, read-back}

@@ -26,7 +26,7 @@ use Rattle.schema.specs.declared.Variable.the-variants.{Number, Listed}
 use Rattle.schema.proofs.Sound.{SoundVariable, SoundVariables}
 use Rattle.instances.specs.Instance.{Entry, rightChoice, inDomain, inDomains, RightEntry}
 use Rattle.instances.specs.File.{IH, IN, due, noneBelow, lowestDue, valueWidth, valueOf, value, values, entryOf, entry, entries, instance, encodeValue, encodeValues, encodeEntry, encodeEntries, encode}
-use Rattle.instances.proofs.At.{At, at-parts, at-both, at-inside, at-all, at-self, spell-read, read-spell, field-at, mark-at, at-mark}
+use Rattle.fields.proofs.At.{At, at-parts, at-both, at-inside, at-all, at-self, spell-read, read-spell, field-at, mark-at, at-mark}
 use Rattle.instances.proofs.Lengths.{entry-length}
 use Rattle.instances.proofs.Valid.{Follows, none-left, and-then}
 

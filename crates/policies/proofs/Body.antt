@@ -27,8 +27,7 @@ use Rattle.schema.proofs.Access.{variable-here}
 use Rattle.schema.proofs.Accepted.{file-of, view}
 use Rattle.schema.proofs.Node.{variable-back}
 use Rattle.policies.specs.Policies.{Condition, range, mask, rankCount, ranks, condition, conditions, ruleOf}
-use Rattle.policies.specs.Combine.{span, spans, offsetOf}
-use Rattle.policies.specs.Body.{isNumber, mostOf, bodyWidth, shapeFrom, shapeOf, Laid, noneOver, Looking}
+use Rattle.policies.specs.Body.{span, spans, offsetOf, isNumber, mostOf, bodyWidth, shapeFrom, shapeOf, Laid, noneOver, Looking}
 use Rattle.policies.proofs.Nodes.{nodes-few}
 
 -- ---- the law: such a PN is read to its end

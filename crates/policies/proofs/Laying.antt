@@ -20,8 +20,7 @@ use Rattle.schema.specs.declared.Variable.{Variable}
 use Rattle.schema.specs.declared.Variable.the-variants.{Number, Listed}
 use Rattle.schema.proofs.Access.{node-small}
 use Rattle.policies.specs.Policies.{rankCount}
-use Rattle.policies.specs.Combine.{span, spans, offsetOf}
-use Rattle.policies.specs.Body.{isNumber, mostOf, shapeFrom, shapeOf, NodeLaid, Laid}
+use Rattle.policies.specs.Body.{span, spans, offsetOf, isNumber, mostOf, shapeFrom, shapeOf, NodeLaid, Laid}
 use Rattle.policies.specs.Answers.{SchemaIn}
 use Rattle.policies.proofs.Body.{variables-few}
 

@@ -9,7 +9,6 @@ pub mod File
 pub mod Body
 pub mod Laying
 pub mod Pass
-pub mod Combine
 pub mod Reader
 pub mod Above
 pub mod Examples

@@ -8,7 +8,6 @@ use lib.ListN.{length}
 use Rattle.schema.specs.Schema.{schemaOf}
 use Rattle.schema.proofs.Accepted.{file-of}
 use Rattle.policies.specs.Index.{RankIn}
-use Rattle.policies.specs.Combine.{NumberIn, ListedIn}
 use Rattle.policies.specs.Answers.{SchemaIn}
 
 pub nodes-few : (s : List ℕ) → length (schemaOf s) ≤ 64
@@ -20,12 +19,6 @@ nodes-few s = go (decLt 0 (length (schemaOf s)))
 
 pub rank-small : (s : List ℕ) (n k : ℕ) → RankIn s n k → n < 64
 rank-small s n k h = omega (arith, h .below, nodes-few s)
-
-pub number-small : (s : List ℕ) (n k o : ℕ) → NumberIn s n k o → n < 64
-number-small s n k o h = omega (arith, h .below, nodes-few s)
-
-pub listed-small : (s : List ℕ) (n k o : ℕ) → ListedIn s n k o → n < 64
-listed-small s n k o h = omega (arith, h .below, nodes-few s)
 
 pub counted-few : (s t : List ℕ) (n : ℕ) → SchemaIn s t n → n ≤ 64
 counted-few s t n h = omega (arith, h .counted, nodes-few s)

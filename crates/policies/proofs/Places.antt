@@ -2,7 +2,7 @@
 -- Rests on Index (what stands at each place) and on Stands (what the bytes of an accepted file spell).
 use mathlib.Core.Path.{_≡_, refl, ap, sym, _∙_, subst}
 use mathlib.Core.Bool.{Bool, true, false, cond}
-use mathlib.Core.List.{List, _∷_}
+use mathlib.Core.List.{List}
 use Prim.Native.Nat.{ℕ, zero, suc, _+_, _-_, _*_, _≤_, _<_}
 use native.Mathlib.Omega.{arith}
 use native.Mathlib.Nat.{add-zero, zero-add}
@@ -10,16 +10,10 @@ use borrow.Author.Tests.{eqb-true}
 use lib.ListN.{length, getD, take, drop, length-drop}
 use lib.Seq.{take-all}
 use lib.Dec.{eqb}
-use lib.Bits.{bitAnd}
-use Rattle.fields.specs.Reading.{be, signed}
-use Rattle.schema.specs.Schema.{Node, nodeAt, schemaOf, variableAt, noVariable}
-use Rattle.schema.specs.declared.Variable.{Variable}
-use Rattle.schema.specs.declared.Variable.the-variants.{Number, Listed}
-use Rattle.policies.specs.Policies.{Condition, range, Rule, Policy, rankCount, policiesOf, policyAt, noRule, ruleFor, rankOf, conditionsOf}
-use Rattle.policies.specs.Index.{conditionWidth, ruleWidth, policyWidth, policyOf, Indexed, PolicyIn, RankIn}
-use Rattle.policies.specs.Combine.{narrow, sieve, narrowBy, sieveBy, span, spans, offsetOf, NumberIn, ListedIn}
-use Rattle.policies.specs.declared.Range.{Range}
-use Rattle.policies.proofs.Stands.{RangeAt, MaskAt, ConditionAt, ConditionsAt, none, more, RuleAt, RulesAt, PolicyAt, PoliciesAt}
+use Rattle.schema.specs.Schema.{Node, nodeAt, schemaOf}
+use Rattle.policies.specs.Policies.{Rule, Policy, rankCount, policiesOf, policyAt, noRule, ruleFor, rankOf}
+use Rattle.policies.specs.Index.{ruleWidth, policyWidth, policyOf, Indexed, PolicyIn, RankIn}
+use Rattle.policies.proofs.Stands.{none, more, RuleAt, RulesAt, PolicyAt, PoliciesAt}
 use Rattle.policies.proofs.Sound.{stood}
 use Rattle.policies.proofs.Nodes.{nodes-few}
 use Rattle.policies.proofs.Index.{headOf, placeOf, index-row, index-head}
@@ -78,56 +72,6 @@ module _ (g : List Node) (s : List ℕ) (n k : ℕ) where
       let m = h .ranks .inside (omega arith) in
       record { inside = omega arith; is = sym (h .ranks .each k c) }
 
--- ---- a condition
-
-width-span : (s : List ℕ) (p : ℕ) (v : Variable) (c : Condition) → ConditionAt s p v c → conditionWidth c ≡ span v
-unfolding conditionWidth span
-width-span s p (Number lo hi) c h = rw (h .is)
-width-span s p (Listed size) c h = rw (h .is)
-
--- condition k of a node
-record Kth (s : List ℕ) (p : ℕ) (v : Variable) (cs : List Condition) (k : ℕ) : Type 0 where
-  pub what : Condition
-  pub narrows : (r : Range) → narrowBy cs k r ≡ narrow what r
-  pub sieves : (u : ℕ) → sieveBy cs k u ≡ sieve what u
-  pub stands : ConditionAt s p v what
-
-kth : {s : List ℕ} {p : ℕ} {vs : List Variable} {cs : List Condition} → ConditionsAt s p vs cs → (k : ℕ) → k < length vs
-    → Kth s (p + spans k vs) (getD vs k noVariable) cs k
-unfolding narrowBy sieveBy spans
-kth none k l = absurd (omega arith)
-kth {s} {p} (more {v = v} {c = c} {cs = cs} h t) zero l =
-    subst (λ (i : ℕ). Kth s i v (c ∷ cs) 0) (sym (add-zero p))
-    (record { what = c; narrows = λ r. refl; sieves = λ u. refl; stands = h })
-kth {s} {p} (more {v = v} {vs = vs} {c = c} {cs = cs} h t) (suc k) l =
-    let r = kth t k (omega arith) in
-    let e : p + conditionWidth c + spans k vs ≡ p + (span v + spans k vs) = omega (arith, width-span s p v c h) in
-    subst (λ (i : ℕ). Kth s i (getD vs k noVariable) (c ∷ cs) (suc k)) e
-    (record { what = r .what; narrows = r .narrows; sieves = r .sieves; stands = r .stands })
-
-module _ (g : List Node) (s : List ℕ) (n k : ℕ) where
-  -- nothing is said: nothing is narrowed
-  narrow-absent : {i : ℕ} {x : Rule} (r : Range) → Place g s n i x → i ≡ 0 → r ≡ narrowBy (x .conditions) k r
-  unfolding narrowBy
-  narrow-absent r absent e = refl
-  narrow-absent r (present a h) e = absurd (omega arith)
-
-  sieve-absent : {i : ℕ} {x : Rule} (u : ℕ) → Place g s n i x → i ≡ 0 → u ≡ sieveBy (x .conditions) k u
-  unfolding sieveBy
-  sieve-absent u absent e = refl
-  sieve-absent u (present a h) e = absurd (omega arith)
-
-  kth-present : {i : ℕ} {x : Rule} → Place g s n i x → (i ≡ 0 → ⊥) → k < length (nodeAt g n .variables)
-      → Kth s (i + offsetOf (nodeAt g n) k) (variableAt g n k) (x .conditions) k
-  unfolding offsetOf
-  kth-present absent e l = absurd (e refl)
-  kth-present (present {p = p} {x = x} a h) e l =
-      subst (λ (m : ℕ). Kth s (p + 3 + (rankCount (nodeAt g m) + spans k (nodeAt g m .variables))) (variableAt g m k) (x .conditions) k) a
-      (subst (λ (i : ℕ). Kth s i (variableAt g (x .node) k) (x .conditions) k)
-      (let z : p + 3 + length (x .ranks) + spans k (nodeAt g (x .node) .variables) ≡ p + 3 + (rankCount (nodeAt g (x .node)) + spans k (nodeAt g (x .node) .variables)) =
-      omega (arith, h .count) in z)
-      (kth (h .conditions) k (rw a l)))
-
 -- ---- through the index
 
 pub count-few : (schema p t : List ℕ) (n : ℕ) → Indexed schema p t n → n ≤ 16
@@ -183,53 +127,3 @@ module _ (schema p t : List ℕ) (j : ℕ) (w : PolicyIn schema p t j) where
     pub rank-is : {r : ℕ} → (getD t (64 * j + n) 0 ≡ 0 → ⊥) → r ≡ getD lent (getD t (64 * j + n) 0 + k) 0 → r ≡ rankOf (policyOf schema p j) n k
     unfolding rankOf
     rank-is e h = h ∙ here e .is
-
-  module _ (n k o : ℕ) (a : NumberIn schema n k o) where
-    pub narrow-none : (r : Range) → getD t (64 * j + n) 0 ≡ 0 → r ≡ narrowBy (conditionsOf (policyOf schema p j) n) k r
-    unfolding conditionsOf
-    narrow-none r e = narrow-absent (schemaOf schema) lent n k r (row n (a .below)) e
-
-    record Bounds : Type 0 where
-      pub inside : getD t (64 * j + n) 0 + o + 8 ≤ length lent
-      pub is : (r : Range) → narrowBy (conditionsOf (policyOf schema p j) n) k r
-          ≡ narrow (range (signed (be 4 lent (getD t (64 * j + n) 0 + o))) (signed (be 4 lent (getD t (64 * j + n) 0 + o + 4)))) r
-
-    bounds : (getD t (64 * j + n) 0 ≡ 0 → ⊥) → Bounds
-    unfolding conditionsOf
-    bounds e =
-        let c = kth-present (schemaOf schema) lent n k (row n (a .below)) e (a .inside) in
-        let i : getD t (64 * j + n) 0 + offsetOf (nodeAt (schemaOf schema) n) k ≡ getD t (64 * j + n) 0 + o = omega (arith, a .at) in
-        let s = subst (λ (z : ℕ). RangeAt lent z (c .what)) i (subst (λ (v : Variable). ConditionAt lent (getD t (64 * j + n) 0 + offsetOf (nodeAt (schemaOf schema) n) k) v (c .what)) (a .is) (c .stands)) in
-        record { inside = s .inside; is = λ r. c .narrows r ∙ ap (λ (y : Condition). narrow y r) (s .is) }
-
-    pub narrow-in : (getD t (64 * j + n) 0 ≡ 0 → ⊥) → getD t (64 * j + n) 0 + o + 8 ≤ length lent
-    narrow-in e = bounds e .inside
-
-    pub narrow-is : (r : Range) {q : Range} → (getD t (64 * j + n) 0 ≡ 0 → ⊥)
-        → q ≡ narrow (range (signed (be 4 lent (getD t (64 * j + n) 0 + o))) (signed (be 4 lent (getD t (64 * j + n) 0 + o + 4)))) r
-        → q ≡ narrowBy (conditionsOf (policyOf schema p j) n) k r
-    narrow-is r e h = h ∙ sym (bounds e .is r)
-
-  module _ (n k o : ℕ) (a : ListedIn schema n k o) where
-    pub sieve-none : (u : ℕ) → getD t (64 * j + n) 0 ≡ 0 → u ≡ sieveBy (conditionsOf (policyOf schema p j) n) k u
-    unfolding conditionsOf
-    sieve-none u e = sieve-absent (schemaOf schema) lent n k u (row n (a .below)) e
-
-    record Bits : Type 0 where
-      pub inside : getD t (64 * j + n) 0 + o + 4 ≤ length lent
-      pub is : (u : ℕ) → sieveBy (conditionsOf (policyOf schema p j) n) k u ≡ bitAnd u (be 4 lent (getD t (64 * j + n) 0 + o))
-
-    bits : (getD t (64 * j + n) 0 ≡ 0 → ⊥) → Bits
-    unfolding conditionsOf sieve
-    bits e =
-        let c = kth-present (schemaOf schema) lent n k (row n (a .below)) e (a .inside) in
-        let i : getD t (64 * j + n) 0 + offsetOf (nodeAt (schemaOf schema) n) k ≡ getD t (64 * j + n) 0 + o = omega (arith, a .at) in
-        let s = subst (λ (z : ℕ). MaskAt lent z (a .size) (c .what)) i (subst (λ (v : Variable). ConditionAt lent (getD t (64 * j + n) 0 + offsetOf (nodeAt (schemaOf schema) n) k) v (c .what)) (a .is) (c .stands)) in
-        record { inside = s .inside; is = λ u. c .sieves u ∙ ap (λ (y : Condition). sieve y u) (s .is) }
-
-    pub sieve-in : (getD t (64 * j + n) 0 ≡ 0 → ⊥) → getD t (64 * j + n) 0 + o + 4 ≤ length lent
-    sieve-in e = bits e .inside
-
-    pub sieve-is : (u : ℕ) {q : ℕ} → (getD t (64 * j + n) 0 ≡ 0 → ⊥) → q ≡ bitAnd u (be 4 lent (getD t (64 * j + n) 0 + o))
-        → q ≡ sieveBy (conditionsOf (policyOf schema p j) n) k u
-    sieve-is u e h = h ∙ sym (bits e .is u)

@@ -12,7 +12,20 @@ use Rattle.schema.specs.Schema.{Node, nodeAt, noVariable}
 use Rattle.schema.specs.declared.Variable.{Variable}
 use Rattle.schema.specs.declared.Variable.the-variants.{Number, Listed}
 use Rattle.policies.specs.Policies.{rankCount}
-use Rattle.policies.specs.Combine.{offsetOf}
+
+-- the bytes of a variable's condition, and of the conditions before the k-th
+unfoldable pub span : Variable → ℕ
+span (Number lo hi) = 8
+span (Listed size) = 4
+
+unfoldable pub spans : ℕ → List Variable → ℕ
+spans zero vs = 0
+spans (suc k) [] = 0
+spans (suc k) (v ∷ vs) = span v + spans k vs
+
+-- where condition k stands in a node's PN, counted from the ranks
+unfoldable pub offsetOf : Node → ℕ → ℕ
+offsetOf x k = rankCount x + spans k (x .variables)
 
 unfoldable pub isNumber : Variable → Bool
 isNumber (Number lo hi) = true

@@ -2,15 +2,12 @@
 ghost use mathlib.Core.Path.{_≡_};
 ghost use Prim.Native.Nat.{_+_, _<_, _≤_};
 ghost use lib.ListN.{length, getD, set};
-ghost use lib.Bits.{bitAnd};
-ghost use Rattle.fields.specs.Reading.{be, signed};
 ghost use Rattle.fields.specs.Answers.{stepOf};
 ghost use Rattle.schema.specs.Schema.{schemaOf, nodeAt, variableAt};
 ghost use Rattle.schema.specs.Table.{NodeIn, AtMost};
-ghost use Rattle.policies.specs.Policies.{range, ranks, condition, conditions, ruleOf, rule, rules, head, policy, policies, rankCount, rankOf, conditionsOf, policiesOf};
+ghost use Rattle.policies.specs.Policies.{ranks, condition, conditions, ruleOf, rule, rules, head, policy, policies, rankCount, rankOf, policiesOf};
 ghost use Rattle.policies.specs.Pass.{pass, inForce, positions, Listing};
 ghost use Rattle.policies.specs.Index.{fillRules, fillPolicy, policyOf, Indexed, PolicyIn, RankIn};
-ghost use Rattle.policies.specs.Combine.{narrow, narrowBy, sieveBy, NumberIn, ListedIn};
 ghost use Rattle.policies.specs.Body.{isNumber, mostOf, Laid, Looking, noneOver};
 ghost use Rattle.policies.specs.Answers.{headIn, ruleRead, outcome, runOf, fileOutcome, fileRun, SchemaIn, blank, Told};
 use fields::Field;
@@ -48,12 +45,6 @@ enum RuleRead {
 pub enum PoliciesRead {
     Policies { count: usize },
     Refused { number: u8, offset: usize },
-}
-
-// What is left of a number's range.
-pub struct Range {
-    pub lo: i32,
-    pub hi: i32,
 }
 
 // The head of the policy that the slice begins with.
@@ -568,70 +559,4 @@ pub fn rank_of(schema: &[u8], p: &[u8], index: &[usize; 1040], j: usize, n: usiz
     }
     let head = index[1024 + j];
     byte_at(&p[head..], at, k)
-}
-
-// A number's condition, on the policy's own stretch of the file.
-fn narrow_at(b: &[u8], at: usize, o: usize, r: Range) -> Range
-    requires { ⌜ at + o + 8 ≤ length (now b) ⌝ }
-    ensures { λ q. ⌜ q ≡ narrow (range (signed (be 4 (now (b .entry)) (at + o))) (signed (be 4 (now (b .entry)) (at + o + 4)))) r ⌝ }
-{
-    let x = fields::i32_at(b, at + o);
-    let y = fields::i32_at(b, at + o + 4);
-    let lo = numbers::greater(r.lo, x);
-    let hi = numbers::lesser(r.hi, y);
-    Range { lo, hi }
-}
-
-// What policy j leaves of the range of node n's variable k, a number, whose condition stands at offset o of the node's PN.
-pub fn narrow(
-    schema: &[u8],
-    p: &[u8],
-    index: &[usize; 1040],
-    j: usize,
-    n: usize,
-    k: usize,
-    o: usize,
-    r: Range,
-) -> Range
-    requires { ⌜ PolicyIn (now schema) (now p) (now index) j ⌝ }
-    requires { ⌜ NumberIn (now schema) n k o ⌝ }
-    ensures { λ q. ⌜ q ≡ narrowBy (conditionsOf (policyOf (now (schema .entry)) (now (p .entry)) j) n) k r ⌝ }
-{
-    let at = index[64 * j + n];
-    if at == 0 {
-        return r;
-    }
-    let head = index[1024 + j];
-    narrow_at(&p[head..], at, o, r)
-}
-
-// A listed variable's condition, on the policy's own stretch of the file.
-fn sieve_at(b: &[u8], at: usize, o: usize, u: u32) -> u32
-    requires { ⌜ at + o + 4 ≤ length (now b) ⌝ }
-    ensures { λ q. ⌜ q ≡ bitAnd u (be 4 (now (b .entry)) (at + o)) ⌝ }
-{
-    u & fields::u32_at(b, at + o)
-}
-
-// What policy j leaves of the mask of node n's variable k, a listed one, whose condition stands at offset o of the node's PN.
-pub fn sieve(
-    schema: &[u8],
-    p: &[u8],
-    index: &[usize; 1040],
-    j: usize,
-    n: usize,
-    k: usize,
-    o: usize,
-    u: u32,
-) -> u32
-    requires { ⌜ PolicyIn (now schema) (now p) (now index) j ⌝ }
-    requires { ⌜ ListedIn (now schema) n k o ⌝ }
-    ensures { λ q. ⌜ q ≡ sieveBy (conditionsOf (policyOf (now (schema .entry)) (now (p .entry)) j) n) k u ⌝ }
-{
-    let at = index[64 * j + n];
-    if at == 0 {
-        return u;
-    }
-    let head = index[1024 + j];
-    sieve_at(&p[head..], at, o, u)
 }

@@ -5,3 +5,4 @@ pub mod Accepted
 pub mod Table
 pub mod Access
 pub mod Fill
+pub mod Refusals
