@@ -28,7 +28,6 @@ mod exports {
             out_length: usize,
         ) -> Answer;
 
-        #[cfg(feature = "reconcile")]
         pub fn neulenta_reconcile(
             schema: *const u8,
             schema_length: usize,
@@ -40,7 +39,6 @@ mod exports {
             out_length: usize,
         ) -> Answer;
 
-        #[cfg(feature = "check")]
         pub fn neulenta_check(
             schema: *const u8,
             schema_length: usize,
@@ -52,7 +50,6 @@ mod exports {
             instance_length: usize,
         ) -> Answer;
 
-        #[cfg(feature = "compare")]
         pub fn neulenta_compare(
             schema: *const u8,
             schema_length: usize,
@@ -86,7 +83,6 @@ pub fn copy(schema: &[u8], instance: &[u8], out: &mut [u8]) -> Answer {
 
 /// Writes at the start of `out` the best instance that meets the policies in force from day `a`
 /// to day `b`; the answer's value is its length.
-#[cfg(feature = "reconcile")]
 pub fn reconcile(schema: &[u8], policies: &[u8], a: u16, b: u16, out: &mut [u8]) -> Answer {
     // SAFETY: each pointer and length are those of one slice, and only `out` is written.
     unsafe {
@@ -104,7 +100,6 @@ pub fn reconcile(schema: &[u8], policies: &[u8], a: u16, b: u16, out: &mut [u8])
 }
 
 /// Accepts `instance` if it meets the policies in force from day `a` to day `b`.
-#[cfg(feature = "check")]
 pub fn check(schema: &[u8], policies: &[u8], a: u16, b: u16, instance: &[u8]) -> Answer {
     // SAFETY: each pointer and length are those of one slice, and none is written.
     unsafe {
@@ -123,7 +118,6 @@ pub fn check(schema: &[u8], policies: &[u8], a: u16, b: u16, instance: &[u8]) ->
 
 /// Says which of two instances is better under the policies in force from day `a` to day `b`;
 /// the answer's value is the verdict.
-#[cfg(feature = "compare")]
 pub fn compare(
     schema: &[u8],
     policies: &[u8],
