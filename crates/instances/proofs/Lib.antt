@@ -4,7 +4,6 @@ pub mod Planned
 pub mod Trip
 pub mod RoundTrip
 pub mod Refusals
-pub mod Examples
 pub mod Due
 pub mod Reader
 pub mod Lookup

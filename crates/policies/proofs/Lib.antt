@@ -11,4 +11,3 @@ pub mod Laying
 pub mod Pass
 pub mod Reader
 pub mod Above
-pub mod Examples
