@@ -1,7 +1,8 @@
 //! Times `reconcile` of the static library and of the reference, alternating in one run, and
-//! prints the time of a call in each and the ratio of the two.
+//! prints the time of a call in each and the ratio of the two; then the same of the whole program.
 
 mod inputs;
+mod program;
 
 use std::hint::black_box;
 use std::time::{Duration, Instant};
@@ -30,16 +31,25 @@ fn reference(input: &Input, out: &mut [u8]) -> (u32, u64) {
 }
 
 fn main() {
+    if std::env::args().nth(1).as_deref() == Some(program::AS_PASSPLAN) {
+        return program::as_passplan();
+    }
     let random = &mut Random::new(1_499);
+    let groups = inputs::groups(random);
     println!("{:<42} {:>7} {:>15} {:>15} {:>6}", "input", "bytes", "ours", "theirs", "ratio");
-    for group in inputs::groups(random) {
-        demand_same(&group);
+    for group in &groups {
+        demand_same(group);
         let [ours, theirs, ratio] = measure(&group.inputs);
         let [ours, theirs] = [ours, theirs].map(|ns| format!("{:.0} ({:.0})", ns.median, ns.least));
         let bytes = group.inputs.iter().map(Input::bytes).sum::<usize>() / group.inputs.len();
         println!("{:<42} {bytes:>7} {ours:>15} {theirs:>15} {:>6.2}", group.name, ratio.median);
     }
     println!("ns for each call: median (least) of {ROUNDS} rounds; ratio: median of ours / theirs");
+    println!("{:<42} {:>7} {:>15} {:>15} {:>6}", "program on", "passes", "ours", "theirs", "ratio");
+    for (group, count) in [(&groups[0], 200_000), (&groups[2], 5_000)] {
+        program::compare(&group.name, &group.inputs[0], count);
+    }
+    println!("passes a second, in the fastest run; ratio: median of the times of ours / theirs");
 }
 
 /// Only equal work is compared: each input has an instance and both write it.
