@@ -11,7 +11,6 @@ use lib.Signed.{mag}
 use mir.Val.{toZ, ofZ, SFits}
 use mir.ValLaws.{toZ-ofZ}
 use mir.Syntax.{w32}
-use Rattle.numbers.specs.Signs.{maxZ, minZ}
 use Rattle.schema.specs.declared.Variable.{Variable}
 use Rattle.schema.specs.declared.Variable.the-variants.{Number, Listed}
 use Rattle.policies.specs.Policies.{Condition, range, mask}
@@ -78,24 +77,7 @@ unfolding conditionsIn
 later-same c k j d [] h = refl
 later-same c k j d (v ∷ vs) h = ap₂ (λ (x : Condition) (xs : List Condition). x ∷ xs) (put-other c k j v d (λ e. omega arith)) (later-same c k (j + 1) d vs (omega arith))
 
--- what the functions that put show: a signed local is read back as itself
-pub range-put : (c : Conditions) (k : ℕ) (a b : ℤ) → SFits w32 a → SFits w32 b
-    → record { lo = set (c .lo) k (toZ w32 (ofZ w32 a)); hi = set (c .hi) k (toZ w32 (ofZ w32 b)); mask = c .mask } ≡ putAt c k (range a b)
-unfolding putAt
-range-put c k a b f h = rw (toZ-ofZ w32 a f, toZ-ofZ w32 b h)
-
-pub mask-put : (c : Conditions) (k m : ℕ) → record { lo = c .lo; hi = c .hi; mask = set (c .mask) k m } ≡ putAt c k (mask m)
-unfolding putAt
-mask-put c k m = refl
-
--- a range narrowed by two bounds, as the code hands them on
-pub range-narrowed : (c : Conditions) (k : ℕ) (x y : ℤ) {p q l h : ℤ} {d : Conditions} → p ≡ getD (c .lo) k (pos 0) → q ≡ getD (c .hi) k (pos 0)
-    → SFits w32 p → SFits w32 q → SFits w32 x → SFits w32 y → mag l < 2 ^ 31 → mag h < 2 ^ 31
-    → l ≡ maxZ (toZ w32 (ofZ w32 p)) (toZ w32 (ofZ w32 x)) → h ≡ minZ (toZ w32 (ofZ w32 q)) (toZ w32 (ofZ w32 y))
-    → d ≡ putAt c k (range (toZ w32 (ofZ w32 l)) (toZ w32 (ofZ w32 h)))
-    → d ≡ putAt c k (both (range (getD (c .lo) k (pos 0)) (getD (c .hi) k (pos 0))) (range x y))
-unfolding both
-range-narrowed c k x y {p} {q} {l} {h} ep eq fp fq fx fy fl fh el eh ed =
-    ed ∙ ap (putAt c k) (ap₂ range
-    (toZ-ofZ w32 l (record { sfits = fl }) ∙ el ∙ ap₂ maxZ (toZ-ofZ w32 p fp ∙ ep) (toZ-ofZ w32 x fx))
-    (toZ-ofZ w32 h (record { sfits = fh }) ∙ eh ∙ ap₂ minZ (toZ-ofZ w32 q fq ∙ eq) (toZ-ofZ w32 y fy)))
+-- a bound narrowed by another, as the code hands them on
+pub bound-put : (f : ℤ → ℤ → ℤ) (l : List ℤ) (k : ℕ) (x : ℤ) {p r : ℤ} → p ≡ getD l k (pos 0) → SFits w32 p → SFits w32 x → mag r < 2 ^ 31
+    → r ≡ f (toZ w32 (ofZ w32 p)) (toZ w32 (ofZ w32 x)) → set l k (toZ w32 (ofZ w32 r)) ≡ set l k (f (getD l k (pos 0)) x)
+bound-put f l k x {p} {r} ep fp fx fr er = ap (set l k) (toZ-ofZ w32 r (record { sfits = fr }) ∙ er ∙ ap₂ f (toZ-ofZ w32 p fp ∙ ep) (toZ-ofZ w32 x fx))

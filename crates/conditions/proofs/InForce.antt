@@ -161,6 +161,16 @@ module _ (schema table p : List ℕ) (a b n : ℕ) where
             ∙ combined-is (forced a b (policiesOf (schemaOf schema) p)) n 0 (nodeAt (schemaOf schema) n .variables);
       })
 
+  -- a node without variables has nothing to narrow
+  pub combining-empty : {c : Conditions} {v : ℕ} → NodeIn schema table n → c ≡ ownFrom blank 0 (nodeAt (schemaOf schema) n .variables)
+      → AtMost 4 (length (nodeAt (schemaOf schema) n .variables)) v → v ≡ 0 → Combined schema p a b n c
+  unfolding conditionsIn
+  combining-empty {c} h e m z = record { holds = go (nodeAt (schemaOf schema) n .variables) (sym (m .is) ∙ z) (combining-none h e .rest) }
+    where
+      go : (vs : List Variable) {cs : List Condition} → length vs ≡ 0 → restrictsAll (forced a b (policiesOf (schemaOf schema) p)) n 0 (conditionsIn c 0 vs) ≡ cs → conditionsIn c 0 vs ≡ cs
+      go [] y q = sym (all-nil (forced a b (policiesOf (schemaOf schema) p)) n 0) ∙ q
+      go (x ∷ vs) y q = absurd (omega arith)
+
   pub combining-policy : (index list : List ℕ) (r : ℕ) {rows : ℕ} → index ≡ indexOf (policiesOf (schemaOf schema) p) → InForce schema p list rows a b → r < rows
       → PolicyIn schema p index (getD list r 0)
   combining-policy index list r e f l = record { index = e; below = f .inside r l }
@@ -189,15 +199,8 @@ module _ (schema table p : List ℕ) (a b n : ℕ) where
       let d : drop r ps ≡ [] = drop-of-length-le ps {i = r} (omega (arith, f .rows-is)) in
       record { holds = sym (ap (λ (l : List Policy). restrictsAll l n 0 (conditionsIn c 0 (nodeAt (schemaOf schema) n .variables))) d) ∙ w .rest }
 
--- a node without variables has nothing to narrow
-pub by-empty : (schema : List ℕ) (n : ℕ) (c : Conditions) (ds : List Condition) {v : ℕ} → AtMost 4 (length (nodeAt (schemaOf schema) n .variables)) v → v ≡ 0
-    → c ≡ narrowFrom c 0 (nodeAt (schemaOf schema) n .variables) ds
-unfolding narrowFrom
-by-empty schema n c ds m e = go (nodeAt (schemaOf schema) n .variables) (sym (m .is) ∙ e)
-  where
-    go : (vs : List Variable) → length vs ≡ 0 → c ≡ narrowFrom c 0 vs ds
-    go [] z = refl
-    go (x ∷ vs) z = absurd (omega arith)
+pub some-variable : (schema : List ℕ) (n : ℕ) {v : ℕ} → AtMost 4 (length (nodeAt (schemaOf schema) n .variables)) v → (v ≡ 0 → ⊥) → 0 < length (nodeAt (schemaOf schema) n .variables)
+some-variable schema n m z = omega (arith, m .is)
 
 -- the conditions begin inside the file
 first-inside : {s : List ℕ} {p : ℕ} {vs : List Variable} {cs : List Condition} → ConditionsAt s p vs cs → 0 < length vs → p < length s
@@ -208,9 +211,9 @@ first-inside {s} {p} (more {v = v} {c = c} a t) h = go v a
     go (Number lo hi) r = let z = r .inside in omega arith
     go (Listed size) r = let z = r .inside in omega arith
 
-pub by-place : (schema table p t : List ℕ) (j n : ℕ) {k v : ℕ} → PolicyIn schema p t j → NodeIn schema table n → AtMost 8 (rankCount (nodeAt (schemaOf schema) n)) k
-    → (getD t (64 * j + n) 0 ≡ 0 → ⊥) → AtMost 4 (length (nodeAt (schemaOf schema) n .variables)) v → (v ≡ 0 → ⊥) → getD t (64 * j + n) 0 + k < length p
-by-place schema table p t j n {k} w h m e q z =
-    let i = first-inside (there schema table p t j n w h m e) (omega (arith, q .is)) in
+pub by-place : (schema table p t : List ℕ) (j n : ℕ) {k : ℕ} → PolicyIn schema p t j → NodeIn schema table n → AtMost 8 (rankCount (nodeAt (schemaOf schema) n)) k
+    → (getD t (64 * j + n) 0 ≡ 0 → ⊥) → 0 < length (nodeAt (schemaOf schema) n .variables) → getD t (64 * j + n) 0 + k < length p
+by-place schema table p t j n {k} w h m e q =
+    let i = first-inside (there schema table p t j n w h m e) q in
     let l : length (take (length p - getD t (1024 + j) 0) (drop (getD t (1024 + j) 0) p)) ≤ length p = simp (length-take, length-drop) (omega arith) in
     omega arith

@@ -6,7 +6,7 @@ use mathlib.Core.List.{List, [], _∷_}
 use Prim.Native.Nat.{ℕ, zero, suc, _+_, _-_, _≤_, _<_, _^_}
 use native.Mathlib.Omega.{arith}
 use native.Mathlib.Numerals.{add-one}
-use lib.ListN.{length, getD, drop, drop-of-length-le}
+use lib.ListN.{length, getD, set, drop, drop-of-length-le}
 use lib.Seq.{drop-cons}
 use lib.Bits.{bitAnd}
 use lib.IntN.{ℤ, pos}
@@ -25,7 +25,7 @@ use Rattle.policies.specs.Policies.{Condition, range, mask, conditions}
 use Rattle.policies.specs.Index.{conditionWidth}
 use Rattle.policies.proofs.Stands.{ConditionAt, RangeAt, MaskAt, ConditionsAt, none, more, conditions-back}
 use Rattle.model.specs.Reconciling.{both}
-use Rattle.conditions.specs.Held.{conditionIn, conditionsIn, putAt, narrowFrom, listIn, Standing}
+use Rattle.conditions.specs.Held.{held, conditionIn, conditionsIn, putAt, narrowFrom, listIn, Standing}
 use Rattle.conditions.specs.declared.Conditions.{Conditions}
 use Rattle.conditions.proofs.Held.{Four, put-four, in-typed, both-typed, put-same, put-other, later-same}
 
@@ -160,23 +160,27 @@ module _ (vs : List Variable) (b : List ℕ) (from : ℕ) (start c : Conditions)
       go (Number lo hi) e = never (sym e)
       go (Listed size) e = refl
 
-  pub narrowing-number : {x y : ℤ} {d : Conditions} → t ≡ true → x ≡ signed (be 4 b at) → mag x < 2 ^ 31 → y ≡ signed (be 4 b (at + 4)) → mag y < 2 ^ 31
-      → d ≡ putAt c k (both (range (getD (c .lo) k (pos 0)) (getD (c .hi) k (pos 0))) (range (toZ w32 (ofZ w32 x)) (toZ w32 (ofZ w32 y))))
-      → Narrowing vs b from start d (at + 8) (k + 1)
-  unfolding conditionWidth
-  narrowing-number {x} {y} {d} e ex fx ey fy q =
+  pub narrowing-number : {x y : ℤ} {l u : List ℤ} → t ≡ true → x ≡ signed (be 4 b at) → mag x < 2 ^ 31 → y ≡ signed (be 4 b (at + 4)) → mag y < 2 ^ 31
+      → l ≡ set (c .lo) k (maxZ (getD (c .lo) k (pos 0)) (toZ w32 (ofZ w32 x))) → u ≡ set (c .hi) k (minZ (getD (c .hi) k (pos 0)) (toZ w32 (ofZ w32 y)))
+      → Narrowing vs b from start (held l u (c .mask)) (at + 8) (k + 1)
+  unfolding conditionWidth both putAt
+  narrowing-number {x} {y} {l} {u} e ex fx ey fy el eu =
       let r = range-here e in
       let z : range (toZ w32 (ofZ w32 x)) (toZ w32 (ofZ w32 y)) ≡ here vs b from start c at k w inside .what =
       ap₂ range (toZ-ofZ w32 x (record { sfits = fx }) ∙ ex) (toZ-ofZ w32 y (record { sfits = fy }) ∙ ey) ∙ sym (r .is) in
-      turn vs b from start c at k w inside d (at + 8)
+      let q : held l u (c .mask) ≡ putAt c k (both (range (getD (c .lo) k (pos 0)) (getD (c .hi) k (pos 0))) (range (toZ w32 (ofZ w32 x)) (toZ w32 (ofZ w32 y)))) =
+      ap₂ (λ (f : List ℤ) (g : List ℤ). held f g (c .mask)) el eu in
+      turn vs b from start c at k w inside (held l u (c .mask)) (at + 8)
       (q ∙ ap (putAt c k) (ap₂ both (sym (held-number e)) z))
       (sym (ap (λ (x : Condition). at + conditionWidth x) (r .is)))
 
-  pub narrowing-listed : {x : ℕ} {d : Conditions} → t ≡ false → x ≡ be 4 b at → d ≡ putAt c k (mask (bitAnd (getD (c .mask) k 0) x)) → Narrowing vs b from start d (at + 4) (k + 1)
-  unfolding both conditionWidth
-  narrowing-listed {x} {d} e ex q =
+  pub narrowing-listed : {x : ℕ} {ms : List ℕ} → t ≡ false → x ≡ be 4 b at → ms ≡ set (c .mask) k (bitAnd (getD (c .mask) k 0) x)
+      → Narrowing vs b from start (held (c .lo) (c .hi) ms) (at + 4) (k + 1)
+  unfolding both conditionWidth putAt
+  narrowing-listed {x} {ms} e ex em =
       let r = mask-here e in
-      turn vs b from start c at k w inside d (at + 4)
+      let q : held (c .lo) (c .hi) ms ≡ putAt c k (mask (bitAnd (getD (c .mask) k 0) x)) = ap (held (c .lo) (c .hi)) em in
+      turn vs b from start c at k w inside (held (c .lo) (c .hi) ms) (at + 4)
       (q ∙ ap (λ (y : ℕ). putAt c k (mask (bitAnd (getD (c .mask) k 0) y))) ex ∙ ap (putAt c k) (sym (ap₂ both (held-listed e) (r .0))))
       (sym (ap (λ (x : Condition). at + conditionWidth x) (r .0)))
 

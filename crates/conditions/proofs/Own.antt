@@ -5,7 +5,7 @@ use mathlib.Core.List.{List, [], _∷_}
 use Prim.Native.Nat.{ℕ, zero, suc, _+_, _-_, _≤_, _<_, _^_}
 use native.Mathlib.Omega.{arith}
 use native.Mathlib.Numerals.{add-one}
-use lib.ListN.{length, getD, drop, drop-of-length-le, length-replicate}
+use lib.ListN.{length, getD, drop, drop-of-length-le, length-replicate, set}
 use lib.Seq.{drop-cons}
 use lib.IntN.{ℤ, pos}
 use mir.Syntax.{w32}
@@ -21,7 +21,7 @@ use Rattle.schema.specs.declared.Variable.{Variable}
 use Rattle.schema.specs.declared.Variable.the-variants.{Number, Listed}
 use Rattle.policies.specs.Policies.{Condition, range, mask}
 use Rattle.model.specs.Reconciling.{own}
-use Rattle.conditions.specs.Held.{conditionIn, conditionsIn, putAt, ownFrom, blank}
+use Rattle.conditions.specs.Held.{held, conditionIn, conditionsIn, putAt, ownFrom, blank}
 use Rattle.conditions.specs.declared.Conditions.{Conditions}
 use Rattle.conditions.proofs.Held.{Four, put-four, own-typed, put-same, put-other}
 
@@ -66,20 +66,17 @@ next vs k c w h =
     ∙ sym (ap (ownFrom c k) (drop-cons vs k noVariable h))
     ∙ w .rest
 
-module _ (vs : List Variable) (k : ℕ) (c : Conditions) {n : ℕ} {x : Variable} {d : Conditions} where
-  pub owning-number : {lo hi : ℤ} → Owning vs k c → AtMost 4 (length vs) n → k < n → x ≡ getD vs k noVariable → x ≡ Number lo hi → d ≡ putAt c k (range lo hi)
-      → Owning vs (k + 1) d
-  unfolding own
-  owning-number {lo} {hi} w m h e g q =
-      let z : own (getD vs k noVariable) ≡ range lo hi = ap own (sym e ∙ g) in
-      record { upto = omega (arith, m .is); rest = ap (λ (y : Conditions). ownFrom y (k + 1) (drop (k + 1) vs)) (q ∙ ap (putAt c k) (sym z)) ∙ next vs k c w (omega (arith, m .is)) }
+module _ (vs : List Variable) (k : ℕ) {n : ℕ} where
+  turn : (c d : Conditions) → Owning vs k c → AtMost 4 (length vs) n → k < n → d ≡ putAt c k (own (getD vs k noVariable)) → Owning vs (k + 1) d
+  turn c d w m h q =
+      record { upto = omega (arith, m .is); rest = ap (λ (y : Conditions). ownFrom y (k + 1) (drop (k + 1) vs)) q ∙ next vs k c w (omega (arith, m .is)) }
 
-  pub owning-listed : {size u : ℕ} → Owning vs k c → AtMost 4 (length vs) n → k < n → x ≡ getD vs k noVariable → x ≡ Listed size → u ≡ ones size → d ≡ putAt c k (mask u)
-      → Owning vs (k + 1) d
-  unfolding own
-  owning-listed {size} {u} w m h e g i q =
+  pub owning-listed : (ls us : List ℤ) (ms : List ℕ) {x : Variable} {size u : ℕ} → Owning vs k (held ls us ms) → AtMost 4 (length vs) n → k < n → x ≡ getD vs k noVariable → x ≡ Listed size → u ≡ ones size
+      → Owning vs (k + 1) (held ls us (set ms k u))
+  unfolding own putAt
+  owning-listed ls us ms {u = u} w m h e g i =
       let z : own (getD vs k noVariable) ≡ mask u = ap own (sym e ∙ g) ∙ ap mask (sym i) in
-      record { upto = omega (arith, m .is); rest = ap (λ (y : Conditions). ownFrom y (k + 1) (drop (k + 1) vs)) (q ∙ ap (putAt c k) (sym z)) ∙ next vs k c w (omega (arith, m .is)) }
+      turn (held ls us ms) (held ls us (set ms k u)) w m h (ap (putAt (held ls us ms) k) (sym z))
 
 pub owning-done : (vs : List Variable) (k : ℕ) (c : Conditions) {n : ℕ} → Owning vs k c → AtMost 4 (length vs) n → n ≤ k → c ≡ ownFrom blank 0 vs
 unfolding ownFrom
@@ -99,10 +96,14 @@ size-small s t n k h b m l e g =
     subst SoundVariable (sym e ∙ g) (sound-at (nodeAt (schemaOf s) n .variables) k (here s t n h .one .sound b .variables) (omega (arith, m .is))) .1
 
 -- a number's bounds, as the code hands them on
-pub owning-bounds : (s t : List ℕ) (n k : ℕ) (c : Conditions) {m : ℕ} {x : Variable} {d : Conditions} {lo hi : ℤ} → Owning (nodeAt (schemaOf s) n .variables) k c
+pub owning-bounds : (s t : List ℕ) (n k : ℕ) (ls us : List ℤ) (ms : List ℕ) {m : ℕ} {x : Variable} {lo hi : ℤ} → Owning (nodeAt (schemaOf s) n .variables) k (held ls us ms)
     → NodeIn s t n → Bytes s → AtMost 4 (length (nodeAt (schemaOf s) n .variables)) m → k < m
-    → x ≡ getD (nodeAt (schemaOf s) n .variables) k noVariable → x ≡ Number lo hi → d ≡ putAt c k (range (toZ w32 (ofZ w32 lo)) (toZ w32 (ofZ w32 hi)))
-    → Owning (nodeAt (schemaOf s) n .variables) (k + 1) d
-owning-bounds s t n k c {lo = lo} {hi} w h b m l e g q =
-    let f = subst SoundVariable (sym e ∙ g) (sound-at (nodeAt (schemaOf s) n .variables) k (here s t n h .one .sound b .variables) (omega (arith, m .is))) in
-    owning-number (nodeAt (schemaOf s) n .variables) k c w m l e g (q ∙ ap (putAt c k) (ap₂ range (toZ-ofZ w32 lo (f .0)) (toZ-ofZ w32 hi (f .1))))
+    → x ≡ getD (nodeAt (schemaOf s) n .variables) k noVariable → x ≡ Number lo hi
+    → Owning (nodeAt (schemaOf s) n .variables) (k + 1) (held (set ls k (toZ w32 (ofZ w32 lo))) (set us k (toZ w32 (ofZ w32 hi))) ms)
+unfolding own putAt
+owning-bounds s t n k ls us ms {lo = lo} {hi} w h b m l e g =
+    let vs = nodeAt (schemaOf s) n .variables in
+    let f = subst SoundVariable (sym e ∙ g) (sound-at vs k (here s t n h .one .sound b .variables) (omega (arith, m .is))) in
+    let z : own (getD vs k noVariable) ≡ range lo hi = ap own (sym e ∙ g) in
+    turn vs k (held ls us ms) (held (set ls k (toZ w32 (ofZ w32 lo))) (set us k (toZ w32 (ofZ w32 hi))) ms) w m l
+    (ap (putAt (held ls us ms) k) (ap₂ range (toZ-ofZ w32 lo (f .0)) (toZ-ofZ w32 hi (f .1)) ∙ sym z))

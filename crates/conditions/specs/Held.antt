@@ -3,7 +3,7 @@ use Prim.Native.Nat.{ℕ, _+_, _<_}
 use mathlib.Core.Path.{_≡_}
 use mathlib.Core.List.{List, [], _∷_}
 use lib.ListN.{length, getD, set, replicate}
-use lib.IntN.{pos}
+use lib.IntN.{ℤ, pos}
 use Rattle.fields.specs.Reading.{Got, got, bad}
 use Rattle.schema.specs.Schema.{Node, schemaOf, nodeAt}
 use Rattle.schema.specs.declared.Variable.{Variable}
@@ -13,6 +13,10 @@ use Rattle.policies.specs.Pass.{forced}
 use Rattle.policies.specs.Index.{PolicyIn, policyOf}
 use Rattle.model.specs.Reconciling.{own, both, combined}
 use Rattle.conditions.specs.declared.Conditions.{Conditions}
+
+-- the record of three arrays
+abbrev pub held : List ℤ → List ℤ → List ℕ → Conditions
+held l h m = record { lo = l; hi = h; mask = m }
 
 -- variable v at place k: a number's range, a listed one's mask
 unfoldable pub conditionIn : Conditions → Variable → ℕ → Condition

@@ -1,14 +1,15 @@
 // The conditions of schema and policies in force on a node's variables, combined.
 ghost use mathlib.Core.Path.{_≡_};
 ghost use Prim.Native.Nat.{ℕ, _+_, _<_, _≤_};
-ghost use lib.ListN.{length, getD};
+ghost use lib.ListN.{length, getD, set};
+ghost use lib.Bits.{bitAnd};
 ghost use Rattle.schema.specs.Schema.{schemaOf, nodeAt};
 ghost use Rattle.schema.specs.Table.{NodeIn};
 ghost use lib.IntN.{pos};
-ghost use Rattle.model.specs.Reconciling.{both};
-ghost use Rattle.policies.specs.Policies.{range, mask, conditions, conditionsOf, policiesOf};
+ghost use Rattle.numbers.specs.Signs.{maxZ, minZ};
+ghost use Rattle.policies.specs.Policies.{conditions, conditionsOf, policiesOf};
 ghost use Rattle.policies.specs.Index.{PolicyIn, policyOf, indexOf};
-ghost use Rattle.conditions.specs.Held.{putAt, ownFrom, narrowFrom, blank, listIn, Standing, InForce, Combined};
+ghost use Rattle.conditions.specs.Held.{held, ownFrom, narrowFrom, blank, listIn, Standing, InForce, Combined};
 use schema::Variable;
 
 // The combined conditions of one node: a range for a number, a mask for a listed variable, a place for each of four.
@@ -18,94 +19,89 @@ pub struct Conditions {
     pub mask: [u32; 4],
 }
 
-fn put_range(c: Conditions, k: usize, lo: i32, hi: i32) -> Conditions
-    requires { ⌜ k < 4 ⌝ }
-    ensures { λ r. ⌜ r ≡ putAt c k (range lo hi) ⌝ }
-{
-    let mut d = c;
-    d.lo[k] = lo;
-    d.hi[k] = hi;
-    d
-}
-
-fn put_mask(c: Conditions, k: usize, m: u32) -> Conditions
-    requires { ⌜ k < 4 ⌝ }
-    ensures { λ r. ⌜ r ≡ putAt c k (mask m) ⌝ }
-{
-    let mut d = c;
-    d.mask[k] = m;
-    d
-}
-
 // The schema's own conditions of node n.
 fn own_conditions(schema: &[u8], table: &[usize; 320], n: usize) -> Conditions
     requires { ⌜ NodeIn (now schema) (now table) n ⌝ }
     ensures { λ r. ⌜ r ≡ ownFrom blank 0 (nodeAt (schemaOf (now (schema .entry))) n .variables) ⌝ }
 {
     let v = schema::variable_count(schema, table, n);
-    let lo = [0i32; 4];
-    let hi = [0i32; 4];
-    let mask = [0u32; 4];
-    let mut c = Conditions { lo, hi, mask };
+    let mut lo = [0i32; 4];
+    let mut hi = [0i32; 4];
+    let mut mask = [0u32; 4];
     let mut k: usize = 0;
     while k < v {
         match schema::variable_of(schema, table, n, k) {
-            Variable::Number { lo, hi } => {
-                c = put_range(c, k, lo, hi);
+            Variable::Number { lo: l, hi: h } => {
+                lo[k] = l;
+                hi[k] = h;
                 k += 1;
             }
             Variable::Listed { size } => {
-                c = put_mask(c, k, numbers::all_values(size));
+                mask[k] = numbers::all_values(size);
                 k += 1;
             }
         }
     }
-    c
+    Conditions { lo, hi, mask }
 }
 
-// The range at place k narrowed by lo and hi: the greatest lower and the least upper bound.
-fn narrow_range(c: Conditions, k: usize, lo: i32, hi: i32) -> Conditions
+// The lower bound at place k, no lower than x.
+fn raise(lo: &mut [i32; 4], k: usize, x: i32)
     requires { ⌜ k < 4 ⌝ }
-    ensures { λ r. ⌜ r ≡ putAt c k (both (range (getD (c .lo) k (pos 0)) (getD (c .hi) k (pos 0))) (range lo hi)) ⌝ }
+    ensures { λ _. ⌜ now (lo .exit) ≡ set (now (lo .entry)) k (maxZ (getD (now (lo .entry)) k (pos 0)) x) ⌝ }
 {
-    let l = numbers::greater(c.lo[k], lo);
-    let h = numbers::lesser(c.hi[k], hi);
-    put_range(c, k, l, h)
+    lo[k] = numbers::greater(lo[k], x);
 }
 
-// Those of c narrowed by a policy's, which stand at a place of the policy's own stretch of the file.
+// The upper bound at place k, no higher than x.
+fn lower(hi: &mut [i32; 4], k: usize, x: i32)
+    requires { ⌜ k < 4 ⌝ }
+    ensures { λ _. ⌜ now (hi .exit) ≡ set (now (hi .entry)) k (minZ (getD (now (hi .entry)) k (pos 0)) x) ⌝ }
+{
+    hi[k] = numbers::lesser(hi[k], x);
+}
+
+// The values at place k that are in m too.
+fn keep(mask: &mut [u32; 4], k: usize, m: u32)
+    requires { ⌜ k < 4 ⌝ }
+    ensures { λ _. ⌜ now (mask .exit) ≡ set (now (mask .entry)) k (bitAnd (getD (now (mask .entry)) k 0) m) ⌝ }
+{
+    mask[k] = mask[k] & m;
+}
+
+// The conditions narrowed in place by a policy's, which stand at a place of the policy's own stretch of the file.
 fn narrow_stretch(
     schema: &[u8],
     table: &[usize; 320],
     n: usize,
     b: &[u8],
     from: usize,
-    start: Conditions,
-) -> Conditions
+    lo: &mut [i32; 4],
+    hi: &mut [i32; 4],
+    mask: &mut [u32; 4],
+)
     requires { ⌜ NodeIn (now schema) (now table) n ⌝ }
     requires { ⌜ Standing (now schema) (now b) n from ⌝ }
-    ensures { λ r. ⌜ r ≡ narrowFrom start 0 (nodeAt (schemaOf (now (schema .entry))) n .variables) (listIn (conditions (now (b .entry)) (nodeAt (schemaOf (now (schema .entry))) n .variables) from)) ⌝ }
+    ensures { λ _. ⌜ held (now (lo .exit)) (now (hi .exit)) (now (mask .exit)) ≡ narrowFrom (held (now (lo .entry)) (now (hi .entry)) (now (mask .entry))) 0 (nodeAt (schemaOf (now (schema .entry))) n .variables) (listIn (conditions (now (b .entry)) (nodeAt (schemaOf (now (schema .entry))) n .variables) from)) ⌝ }
 {
     let v = schema::variable_count(schema, table, n);
-    let mut c = start;
     let mut at = from;
     let mut k: usize = 0;
     while k < v {
         if schema::is_number(schema, table, n, k) {
-            c = narrow_range(c, k, fields::i32_at(b, at), fields::i32_at(b, at + 4));
+            raise(lo, k, fields::i32_at(b, at));
+            lower(hi, k, fields::i32_at(b, at + 4));
             at += 8;
             k += 1;
         } else {
-            let m = c.mask[k] & fields::u32_at(b, at);
-            c = put_mask(c, k, m);
+            keep(mask, k, fields::u32_at(b, at));
             at += 4;
             k += 1;
         }
     }
-    c
 }
 
-// Those of c narrowed by policy j's of node n, if it speaks of the node.
+// The conditions narrowed in place by policy j's of node n, which has variables, if the policy speaks of the node.
 fn narrow_by(
     schema: &[u8],
     table: &[usize; 320],
@@ -113,22 +109,22 @@ fn narrow_by(
     index: &[usize; 1040],
     j: usize,
     n: usize,
-    c: Conditions,
-) -> Conditions
+    lo: &mut [i32; 4],
+    hi: &mut [i32; 4],
+    mask: &mut [u32; 4],
+)
     requires { ⌜ NodeIn (now schema) (now table) n ⌝ }
     requires { ⌜ PolicyIn (now schema) (now p) (now index) j ⌝ }
-    ensures { λ r. ⌜ r ≡ narrowFrom c 0 (nodeAt (schemaOf (now (schema .entry))) n .variables) (conditionsOf (policyOf (now (schema .entry)) (now (p .entry)) j) n) ⌝ }
+    requires { ⌜ 0 < length (nodeAt (schemaOf (now schema)) n .variables) ⌝ }
+    ensures { λ _. ⌜ held (now (lo .exit)) (now (hi .exit)) (now (mask .exit)) ≡ narrowFrom (held (now (lo .entry)) (now (hi .entry)) (now (mask .entry))) 0 (nodeAt (schemaOf (now (schema .entry))) n .variables) (conditionsOf (policyOf (now (schema .entry)) (now (p .entry)) j) n) ⌝ }
 {
     let at = index[64 * j + n];
     if at == 0 {
-        return c;
-    }
-    if schema::variable_count(schema, table, n) == 0 {
-        return c;
+        return;
     }
     let head = index[1024 + j];
     let ranks = policies::rank_count(schema, table, n);
-    narrow_stretch(schema, table, n, &p[head..], at + ranks, c)
+    narrow_stretch(schema, table, n, &p[head..], at + ranks, lo, hi, mask);
 }
 
 // The combined conditions of node n: the schema's, narrowed by each policy in force.
@@ -148,11 +144,27 @@ pub fn combine(
     requires { ⌜ InForce (now schema) (now p) (now list) rows a b ⌝ }
     ensures { λ r. ⌜ Combined (now (schema .entry)) (now (p .entry)) a b n r ⌝ }
 {
-    let mut c = own_conditions(schema, table, n);
+    let c = own_conditions(schema, table, n);
+    if schema::variable_count(schema, table, n) == 0 {
+        return c;
+    }
+    let mut lo = c.lo;
+    let mut hi = c.hi;
+    let mut mask = c.mask;
     let mut r: usize = 0;
     while r < rows {
-        c = narrow_by(schema, table, p, index, list[r], n, c);
+        narrow_by(
+            schema,
+            table,
+            p,
+            index,
+            list[r],
+            n,
+            &mut lo,
+            &mut hi,
+            &mut mask,
+        );
         r += 1;
     }
-    c
+    Conditions { lo, hi, mask }
 }

@@ -3,7 +3,7 @@
 use native.Mathlib.Omega.{arith}
 use Rattle.schema.proofs.Access.{node-small}
 use Rattle.policies.proofs.Places.{policy-few, head-in}
-use Rattle.conditions.proofs.InForce.{by-none, by-empty, by-place, by-standing, by-some}
+use Rattle.conditions.proofs.InForce.{by-none, by-place, by-standing, by-some}
 use borrow.Author.Needs.{needs}
 use Rattle.conditions.proofs.narrow_by.Statement.{statement}
 use Rattle.conditions.proofs.narrow_by.Tie as tie
@@ -22,12 +22,6 @@ element-copy-out-at c = omega (arith, policy-few, node-small)
 
 returns : tie.Need-returns
 returns c = search by-none
-
-variable-count-requires : tie.Need-variable-count-requires
-variable-count-requires c κs = search needs
-
-returns-2 : tie.Need-returns-2
-returns-2 c = search by-empty
 
 add-head : tie.Need-add-head
 add-head c = omega (arith, policy-few, node-small)
@@ -51,13 +45,13 @@ part-narrow-stretch-end : tie.Need-part-narrow-stretch-end
 part-narrow-stretch-end c = search needs
 
 add-narrow-stretch : tie.Need-add-narrow-stretch
-add-narrow-stretch c = omega (arith, by-place _ _ _ _ _ _ (c .before .before .before .before .before .before .before .before .before .pre .1) (c .before .before .before .before .before .before .before .before .before .pre .0) (c .before .rank-count .ensures) (c .before .before .before .before .before .if1 .left) (c .before .before .before .before .variable-count .ensures) (c .before .before .before .if2 .left))
+add-narrow-stretch c = omega (arith, by-place _ _ _ _ _ _ (c .before .before .before .before .before .before .before .pre .1 .0) (c .before .before .before .before .before .before .before .pre .0) (c .before .rank-count .ensures) (c .before .before .before .if1 .left) (c .before .before .before .before .before .before .before .pre .1 .1))
 
 narrow-stretch-requires : tie.Need-narrow-stretch-requires
 narrow-stretch-requires c κs = search (by-standing, needs)
 
-returns-3 : tie.Need-returns-3
-returns-3 c = search by-some
+returns-2 : tie.Need-returns-2
+returns-2 c = search by-some
 
 pub narrow-by-spec : {M : Type 1} → statement M
 narrow-by-spec =
@@ -68,8 +62,6 @@ narrow-by-spec =
     mul-at-2
     element-copy-out-at
     returns
-    variable-count-requires
-    returns-2
     add-head
     mul-head
     element-copy-out-head
@@ -79,4 +71,4 @@ narrow-by-spec =
     part-narrow-stretch-end
     add-narrow-stretch
     narrow-stretch-requires
-    returns-3)
+    returns-2)

@@ -2,16 +2,17 @@
 -- Rests on the laws of the loop, in Own.
 use Prim.Native.Nat.{_-_}
 use Rattle.schema.specs.Schema.{schemaOf, nodeAt}
+use Rattle.conditions.specs.Held.{held}
 use Rattle.conditions.proofs.Own.{Owning, owning-none, owning-bounds, owning-listed, owning-done, size-small}
 use borrow.Author.Needs.{needs}
 use Rattle.conditions.proofs.own_conditions.Statement.{statement}
 use Rattle.conditions.proofs.own_conditions.Tie as tie
 
 abbrev Inv-loop : tie.InvT-loop
-Inv-loop schema table n v c₀ k₀ c k = Owning (nodeAt (schemaOf schema) n .variables) k c
+Inv-loop schema table n v lo₀ hi₀ mask₀ k₀ lo hi mask k = Owning (nodeAt (schemaOf schema) n .variables) k (held lo hi mask)
 
 abbrev μ-loop : tie.MeasureT-loop
-μ-loop schema table n v c₀ k₀ c k = v - k
+μ-loop schema table n v lo₀ hi₀ mask₀ k₀ lo hi mask k = v - k
 
 variable-count-requires : tie.Need-variable-count-requires Inv-loop μ-loop
 variable-count-requires c κs = search needs
@@ -22,11 +23,20 @@ loop-holds c = search owning-none
 variable-of-requires : tie.Need-variable-of-requires Inv-loop μ-loop
 variable-of-requires c κs = search needs
 
-enum-known-lo : tie.Need-enum-known-lo Inv-loop μ-loop
-enum-known-lo c = search needs
+enum-known-l : tie.Need-enum-known-l Inv-loop μ-loop
+enum-known-l c = search needs
 
-put-range-requires : tie.Need-put-range-requires Inv-loop μ-loop
-put-range-requires c κs = search needs
+mul-lo : tie.Need-mul-lo Inv-loop μ-loop
+mul-lo c = search needs
+
+array-set-from-lo : tie.Need-array-set-from-lo Inv-loop μ-loop
+array-set-from-lo c = search needs
+
+mul-hi : tie.Need-mul-hi Inv-loop μ-loop
+mul-hi c = search needs
+
+array-set-from-hi : tie.Need-array-set-from-hi Inv-loop μ-loop
+array-set-from-hi c = search needs
 
 add-k : tie.Need-add-k Inv-loop μ-loop
 add-k c = search needs
@@ -43,8 +53,11 @@ enum-known-size c = search needs
 all-values-requires : tie.Need-all-values-requires Inv-loop μ-loop
 all-values-requires c κs = search size-small
 
-put-mask-requires : tie.Need-put-mask-requires Inv-loop μ-loop
-put-mask-requires c κs = search needs
+mul-mask : tie.Need-mul-mask Inv-loop μ-loop
+mul-mask c = search needs
+
+array-write-mask : tie.Need-array-write-mask Inv-loop μ-loop
+array-write-mask c = search needs
 
 add-k-2 : tie.Need-add-k-2 Inv-loop μ-loop
 add-k-2 c = search needs
@@ -67,14 +80,18 @@ own-conditions-spec =
     variable-count-requires
     loop-holds
     variable-of-requires
-    enum-known-lo
-    put-range-requires
+    enum-known-l
+    mul-lo
+    array-set-from-lo
+    mul-hi
+    array-set-from-hi
     add-k
     loop-less
     loop-again
     enum-known-size
     all-values-requires
-    put-mask-requires
+    mul-mask
+    array-write-mask
     add-k-2
     loop-less-2
     loop-again-2
