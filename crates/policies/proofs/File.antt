@@ -6,14 +6,14 @@ use Prim.Native.Nat.{ℕ, zero, suc, _+_, _-_, _^_, _≤_, _<_}
 use native.Mathlib.Omega.{arith}
 use native.Mathlib.Nat.{zero-add}
 use borrow.Author.Tests.{lt-ltb, le-ltb}
-use lib.ListN.{length, set, drop, take, length-drop}
+use lib.ListN.{length, set, drop, take, length-drop, drop-of-length-le}
 use mir.Val.{Fits}
 use mir.Syntax.{w64}
 use Rattle.fields.specs.Reading.{Got, got, bad, part}
 use Rattle.fields.specs.declared.Step.{Step}
 use Rattle.fields.specs.declared.Step.the-variants.{Next, Bad}
 use Rattle.schema.specs.Schema.{Node, schemaOf}
-use Rattle.policies.specs.Policies.{Rule, Policy, rules, head, policy, onward, policiesFrom, policies, policiesOf}
+use Rattle.policies.specs.Policies.{Rule, Policy, Head, rules, head, policy, onward, policiesFrom, policies, policiesOf}
 use Rattle.policies.specs.Index.{policyWidth, fillRules, fillPolicy, fillPolicies, indexOf}
 use Rattle.policies.specs.Answers.{headIn, Run, did, refused, outcome, runOf, fileOutcome, fileRun, blank, Told}
 use Rattle.policies.specs.declared.HeadRead.{HeadRead}
@@ -24,6 +24,16 @@ use Rattle.policies.proofs.Places.{rest}
 use Rattle.policies.proofs.Stands.{head-back, policy-back}
 use Rattle.policies.proofs.Within.{policy-within}
 
+-- ---- a head, where it stands in the file
+
+module _ (s : List ℕ) (p : ℕ) {x : Got Head} where
+  pub head-inside : head (take (length s - p) (drop p s)) ≡ x → head (drop p s) ≡ x
+  head-inside e = ap head (sym (rest s p)) ∙ e
+
+  -- past the end stands what stands at the end
+  pub head-past : head (take (length s - length s) (drop (length s) s)) ≡ x → length s ≤ p → head (drop p s) ≡ x
+  head-past e h = ap head (drop-of-length-le s {i = p} h ∙ sym (drop-of-length-le s {i = length s} (omega arith)) ∙ sym (rest s (length s))) ∙ e
+
 -- ---- a head, then its PN
 
 rules-first : (j h : ℕ) (r : Got (List Rule)) (a l : ℕ) (t : List ℕ)
@@ -32,18 +42,21 @@ unfolding fillPolicy part
 rules-first j h (got xs q) a l t = refl
 rules-first j h (bad n o) a l t = refl
 
-module _ (g : List Node) (h : ℕ) (b : List ℕ) (j : ℕ) (t : List ℕ) {f : HeadRead} where
-  pub policy-headless : {m o : ℕ} → head b ≡ headIn f → f ≡ NoHead m o → refused m o ≡ runOf (fillPolicy j h) (policy g b) t
+module _ (g : List Node) (s : List ℕ) (h j : ℕ) (t : List ℕ) {f : HeadRead} where
+  pub policy-headless : {m o : ℕ} → head (drop h s) ≡ headIn f → f ≡ NoHead m o → refused m o ≡ runOf (fillPolicy j h) (policy g (drop h s)) t
   unfolding policy part
-  policy-headless {m} {o} e k = let z : head b ≡ bad m o = e ∙ ap headIn k in rw z
+  policy-headless {m} {o} e k = let z : head (drop h s) ≡ bad m o = e ∙ ap headIn k in rw z
 
-  pub policy-rules : {a l n q : ℕ} {Y : Run} → head b ≡ headIn f → f ≡ Found a l n q
-      → Y ≡ runOf (fillRules j q) (rules g b n 0 q) (set t (1024 + j) h) → Y ≡ runOf (fillPolicy j h) (policy g b) t
+  pub policy-rules : {a l n q : ℕ} {Y : Run} → head (drop h s) ≡ headIn f → f ≡ Found a l n q
+      → Y ≡ runOf (fillRules j q) (rules g (take (length s - h) (drop h s)) n 0 q) (set t (1024 + j) h) → Y ≡ runOf (fillPolicy j h) (policy g (drop h s)) t
   unfolding policy part
   policy-rules {a} {l} {n} {q} e k y =
-      let z : head b ≡ got (record { first = a; last = l; count = n }) q = e ∙ ap headIn k in
-      let i = head-back b z .next in
-      rw z (y ∙ ap (λ (p : ℕ). runOf (fillRules j p) (rules g b n 0 q) (set t (1024 + j) h)) i ∙ rules-first j h (rules g b n 0 q) a l t)
+      let z : head (drop h s) ≡ got (record { first = a; last = l; count = n }) q = e ∙ ap headIn k in
+      let i = head-back (drop h s) z .next in
+      rw z
+      (y ∙ ap (λ (b : List ℕ). runOf (fillRules j q) (rules g b n 0 q) (set t (1024 + j) h)) (rest s h)
+      ∙ ap (λ (p : ℕ). runOf (fillRules j p) (rules g (drop h s) n 0 q) (set t (1024 + j) h)) i
+      ∙ rules-first j h (rules g (drop h s) n 0 q) a l t)
 
 pub ruleset of-policy = (policy-headless, policy-rules)
 
@@ -102,20 +115,18 @@ module _ (g : List Node) (s : List ℕ) (X : Run) (j p : ℕ) (t : List ℕ) whe
       go zero i = last (rw (le-ltb p (length s) a) at i)
       go (suc k) i = last (rw (le-ltb p (length s) a) at i)
 
-  module _ (u : List ℕ) {f : Step} (e : outcome f u ≡ runOf (fillPolicy j p) (policy g (take (length s - p) (drop p s))) t) where
+  module _ (u : List ℕ) {f : Step} (e : outcome f u ≡ runOf (fillPolicy j p) (policy g (drop p s)) t) where
     bad-there : {m o : ℕ} → f ≡ Bad m o → policy g (drop p s) ≡ bad m o
-    bad-there h = ap (policy g) (sym (rest s p)) ∙ not-run (fillPolicy j p) (policy g (take (length s - p) (drop p s))) t u e h
+    bad-there h = not-run (fillPolicy j p) (policy g (drop p s)) t u e h
 
     ran-there : {q : ℕ} → f ≡ Next q → Ran (fillPolicy j p) (policy g (drop p s)) t u q
-    ran-there h =
-        let y = ran (fillPolicy j p) (policy g (take (length s - p) (drop p s))) t u e h in
-        record { what = y .what; read = ap (policy g) (sym (rest s p)) ∙ y .read; index = y .index }
+    ran-there h = ran (fillPolicy j p) (policy g (drop p s)) t u e h
 
   module _ (w : Reading g s X j p t) (a : p < length s) (n : j ≡ 16 → ⊥) where
     here : fileRun j p (policiesFrom g s (suc (15 - j)) p) t ≡ X
     here = ap (λ (k : ℕ). fileRun j p (policiesFrom g s k p) t) (let z : suc (15 - j) ≡ 16 - j = omega (arith, w .upto) in z) ∙ w .left
 
-    module _ (u : List ℕ) {f : Step} (e : outcome f u ≡ runOf (fillPolicy j p) (policy g (take (length s - p) (drop p s))) t) where
+    module _ (u : List ℕ) {f : Step} (e : outcome f u ≡ runOf (fillPolicy j p) (policy g (drop p s)) t) where
       pub file-bad : {m o : ℕ} → f ≡ Bad m o → refused m (p + o) ≡ X
       unfolding policiesFrom onward part
       file-bad h = rw (lt-ltb p (length s) a, bad-there u e h) at here

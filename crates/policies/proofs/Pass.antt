@@ -5,7 +5,7 @@ use mathlib.Core.Bool.{Bool, true, false, cond}
 use mathlib.Core.List.{List, [], _∷_}
 use native.Mathlib.Numerals.{add-one}
 use native.Mathlib.Nat.{add-zero, zero-add}
-use lib.ListN.{length, getD, set, take, drop, length-set, drop-of-length-le}
+use lib.ListN.{length, getD, set, drop, length-set, drop-of-length-le}
 use lib.Seq.{drop-cons}
 use Prim.Native.Nat.{ℕ, zero, suc, _+_, _-_, _≤_, _<_}
 use native.Mathlib.Omega.{arith}
@@ -23,7 +23,7 @@ use Rattle.policies.specs.Answers.{headIn}
 use Rattle.policies.specs.declared.HeadRead.{HeadRead}
 use Rattle.policies.specs.declared.HeadRead.the-variants.{Found, NoHead}
 use Rattle.policies.proofs.Stands.{PolicyAt}
-use Rattle.policies.proofs.Places.{policy-here}
+use Rattle.policies.proofs.Places.{policy-there}
 use Rattle.policies.proofs.Sound.{stood}
 
 module _ (a b : ℕ) where
@@ -72,19 +72,19 @@ module _ {g : List Node} (s : List ℕ) (x : Policy) (w : PolicyAt g s x) (a b :
 
 -- the same through the index
 module _ (schema p t : List ℕ) (j : ℕ) (w : PolicyIn schema p t j) (a b : ℕ) {f : HeadRead}
-    (e : head (take (length p - getD t (1024 + j) 0) (drop (getD t (1024 + j) 0) p)) ≡ headIn f) where
+    (e : head (drop (getD t (1024 + j) 0) p) ≡ headIn f) where
   pub in-force-none : {m o : ℕ} → f ≡ NoHead m o → false ≡ inForce a b (policyOf schema p j)
-  in-force-none h = force-none _ (policyOf schema p j) (policy-here schema p t j w) a b e h
+  in-force-none h = force-none _ (policyOf schema p j) (policy-there schema p t j w) a b e h
 
   module _ {first last n q : ℕ} (h : f ≡ Found first last n q) where
     pub in-force-early : b < first → false ≡ inForce a b (policyOf schema p j)
-    in-force-early k = force-early _ (policyOf schema p j) (policy-here schema p t j w) a b e h k
+    in-force-early k = force-early _ (policyOf schema p j) (policy-there schema p t j w) a b e h k
 
     pub in-force-late : first ≤ b → last < a → false ≡ inForce a b (policyOf schema p j)
-    in-force-late k l = force-late _ (policyOf schema p j) (policy-here schema p t j w) a b e h k l
+    in-force-late k l = force-late _ (policyOf schema p j) (policy-there schema p t j w) a b e h k l
 
     pub in-force-yes : first ≤ b → a ≤ last → true ≡ inForce a b (policyOf schema p j)
-    in-force-yes k l = force-yes _ (policyOf schema p j) (policy-here schema p t j w) a b e h k l
+    in-force-yes k l = force-yes _ (policyOf schema p j) (policy-there schema p t j w) a b e h k l
 
 pub ruleset forcing = (in-force-none, in-force-early, in-force-late, in-force-yes)
 

@@ -97,12 +97,15 @@ module _ (schema p t : List ℕ) (j : ℕ) (w : PolicyIn schema p t j) where
   pub head-in : getD t (1024 + j) 0 ≤ length p
   head-in = omega (arith, stretch .inside)
 
+  pub policy-there : PolicyAt (schemaOf schema) (drop (getD t (1024 + j) 0) p) (policyOf schema p j)
+  policy-there = stretch .policy
+
   -- the policy's stretch, as a callee is lent it
   abbrev lent : List ℕ
   lent = take (length p - getD t (1024 + j) 0) (drop (getD t (1024 + j) 0) p)
 
-  pub policy-here : PolicyAt (schemaOf schema) lent (policyOf schema p j)
-  policy-here = subst (λ (b : List ℕ). PolicyAt (schemaOf schema) b (policyOf schema p j)) (sym (rest p (getD t (1024 + j) 0))) (stretch .policy)
+  policy-here : PolicyAt (schemaOf schema) lent (policyOf schema p j)
+  policy-here = subst (λ (b : List ℕ). PolicyAt (schemaOf schema) b (policyOf schema p j)) (sym (rest p (getD t (1024 + j) 0))) policy-there
 
   module _ (n : ℕ) (below : n < length (schemaOf schema)) where
     pub row : Place (schemaOf schema) lent n (getD t (64 * j + n) 0) (ruleFor n (policyOf schema p j .rules))

@@ -1,7 +1,7 @@
 // The reader of policies files, and accessors to the policies of an accepted one.
 ghost use mathlib.Core.Path.{_≡_};
 ghost use Prim.Native.Nat.{_+_, _<_, _≤_};
-ghost use lib.ListN.{length, getD, set};
+ghost use lib.ListN.{length, getD, set, drop};
 ghost use Rattle.fields.specs.Answers.{stepOf};
 ghost use Rattle.schema.specs.Schema.{schemaOf, nodeAt, variableAt};
 ghost use Rattle.schema.specs.Table.{NodeIn, AtMost};
@@ -80,6 +80,45 @@ pub fn read_head(b: &[u8]) -> HeadRead
             },
         },
     }
+}
+
+// A walker over the policies file: its bytes and a position in them. Each function over it is proved by hand, so they are
+// few, and the ones above them take a slice and a number.
+struct Walker<'a> {
+    bytes: &'a [u8],
+    at: usize,
+}
+
+// A walker over these bytes, at this position.
+fn walker_at<'a>(bytes: &'a [u8], at: usize) -> Walker<'a>
+    ensures { λ r. ⌜ (r .bytes ≡ bytes .entry) × (r .at ≡ at) ⌝ }
+{
+    Walker { bytes, at }
+}
+
+// The head of the policy that stands at a position; past the end stands what stands at the end.
+fn head_at(p: &[u8], at: usize) -> HeadRead
+    ensures { λ r. ⌜ head (drop at (now (p .entry))) ≡ headIn r ⌝ }
+{
+    let end = p.len();
+    if at < end {
+        return read_head(&p[at..]);
+    }
+    read_head(&p[end..])
+}
+
+// The head of the policy that the walker stands at.
+fn head_here<'a>(w: Walker<'a>) -> HeadRead
+    ensures { λ r. ⌜ head (drop (w .entry .at) (now (w .entry .bytes))) ≡ headIn r ⌝ }
+{
+    head_at(w.bytes, w.at)
+}
+
+// The head of the policy that begins at a position of the file.
+fn head_from(p: &[u8], at: usize) -> HeadRead
+    ensures { λ r. ⌜ head (drop at (now (p .entry))) ≡ headIn r ⌝ }
+{
+    head_here(walker_at(p, at))
 }
 
 // k ranks.
@@ -374,13 +413,13 @@ fn read_rules(
     Step::Next { at }
 }
 
-// Policy j, on its own stretch of the file, from its head on.
+// Policy j, on its own stretch of the file p, from its head on.
 fn read_policy(
     schema: &[u8],
     table: &[usize; 320],
     layout: &[usize; 576],
     count: usize,
-    b: &[u8],
+    p: &[u8],
     head: usize,
     j: usize,
     index: &mut [usize; 1040],
@@ -388,9 +427,10 @@ fn read_policy(
     requires { ⌜ SchemaIn (now schema) (now table) count ⌝ }
     requires { ⌜ Laid (schemaOf (now schema)) count (now layout) ⌝ }
     requires { ⌜ j < 16 ⌝ }
-    ensures { λ r. ⌜ outcome r (now (index .exit)) ≡ runOf (fillPolicy j head) (policy (schemaOf (now (schema .entry))) (now (b .entry))) (now (index .entry)) ⌝ }
+    requires { ⌜ head ≤ length (now p) ⌝ }
+    ensures { λ r. ⌜ outcome r (now (index .exit)) ≡ runOf (fillPolicy j head) (policy (schemaOf (now (schema .entry))) (drop head (now (p .entry)))) (now (index .entry)) ⌝ }
 {
-    match read_head(b) {
+    match head_from(p, head) {
         HeadRead::NoHead { number, offset } => Step::Bad { number, offset },
         HeadRead::Found {
             first: _,
@@ -399,7 +439,7 @@ fn read_policy(
             next,
         } => {
             index[1024 + j] = head;
-            read_rules(schema, table, layout, count, b, j, n, next, index)
+            read_rules(schema, table, layout, count, &p[head..], j, n, next, index)
         }
     }
 }
@@ -426,7 +466,7 @@ fn read_file(
                 offset: at,
             };
         }
-        match read_policy(schema, table, layout, count, &p[at..], at, j, index) {
+        match read_policy(schema, table, layout, count, p, at, j, index) {
             Step::Bad { number, offset } => {
                 return PoliciesRead::Refused {
                     number,
@@ -489,7 +529,7 @@ pub fn in_force(schema: &[u8], p: &[u8], index: &[usize; 1040], j: usize, a: u16
     ensures { λ r. ⌜ r ≡ inForce a b (policyOf (now (schema .entry)) (now (p .entry)) j) ⌝ }
 {
     let head = index[1024 + j];
-    match read_head(&p[head..]) {
+    match head_from(p, head) {
         HeadRead::NoHead {
             number: _,
             offset: _,

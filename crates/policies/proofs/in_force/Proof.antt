@@ -2,7 +2,7 @@
 -- Rests on what the index holds of an accepted file.
 use borrow.Author.Needs.{needs}
 use native.Mathlib.Omega.{arith}
-use Rattle.policies.proofs.Places.{policy-few, head-in}
+use Rattle.policies.proofs.Places.{policy-few}
 use Rattle.policies.proofs.Pass.{forcing}
 use Rattle.policies.proofs.in_force.Statement.{statement}
 use Rattle.policies.proofs.in_force.Tie as tie
@@ -16,17 +16,8 @@ mul-head c = omega (arith, policy-few)
 element-copy-out-head : tie.Need-element-copy-out-head
 element-copy-out-head c = omega (arith, policy-few)
 
-sub-read-head : tie.Need-sub-read-head
-sub-read-head c = search head-in
-
-part-read-head-start : tie.Need-part-read-head-start
-part-read-head-start c = search head-in
-
-part-read-head-end : tie.Need-part-read-head-end
-part-read-head-end c = search needs
-
-read-head-requires : tie.Need-read-head-requires
-read-head-requires c κs = search needs
+head-from-requires : tie.Need-head-from-requires
+head-from-requires c κs = search needs
 
 enum-told : tie.Need-enum-told
 enum-told c = search needs
@@ -53,10 +44,7 @@ in-force-spec =
     add-head
     mul-head
     element-copy-out-head
-    sub-read-head
-    part-read-head-start
-    part-read-head-end
-    read-head-requires
+    head-from-requires
     enum-told
     enum-known-first
     returns

@@ -21,23 +21,14 @@ loop-holds c = search file-start
 returns : tie.Need-returns Inv-loop μ-loop
 returns c = search file-eight
 
-sub-read-policy : tie.Need-sub-read-policy Inv-loop μ-loop
-sub-read-policy c = search needs
-
-part-read-policy-start : tie.Need-part-read-policy-start Inv-loop μ-loop
-part-read-policy-start c = search needs
-
-part-read-policy-end : tie.Need-part-read-policy-end Inv-loop μ-loop
-part-read-policy-end c = search needs
-
 read-policy-requires : tie.Need-read-policy-requires Inv-loop μ-loop
-read-policy-requires c κs = (search needs, (search needs, search needs))
+read-policy-requires c κs = (search needs, (search needs, (search needs, search needs)))
 
 enum-known-number : tie.Need-enum-known-number Inv-loop μ-loop
 enum-known-number c = search needs
 
-add-t19 : tie.Need-add-t19 Inv-loop μ-loop
-add-t19 c = search (file-points, needs)
+add-t16 : tie.Need-add-t16 Inv-loop μ-loop
+add-t16 c = search (file-points, needs)
 
 returns-2 : tie.Need-returns-2 Inv-loop μ-loop
 returns-2 c = search file-bad
@@ -68,12 +59,9 @@ read-file-spec =
     μ-loop
     loop-holds
     returns
-    sub-read-policy
-    part-read-policy-start
-    part-read-policy-end
     read-policy-requires
     enum-known-number
-    add-t19
+    add-t16
     returns-2
     enum-known-next
     add-j

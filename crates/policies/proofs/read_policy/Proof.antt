@@ -5,8 +5,8 @@ use Rattle.policies.proofs.File.{of-policy}
 use Rattle.policies.proofs.read_policy.Statement.{statement}
 use Rattle.policies.proofs.read_policy.Tie as tie
 
-read-head-requires : tie.Need-read-head-requires
-read-head-requires c κs = search needs
+head-from-requires : tie.Need-head-from-requires
+head-from-requires c κs = search needs
 
 enum-known-number : tie.Need-enum-known-number
 enum-known-number c = search needs
@@ -23,6 +23,15 @@ mul-index c = search needs
 element-write-index : tie.Need-element-write-index
 element-write-index c = search needs
 
+sub-read-rules : tie.Need-sub-read-rules
+sub-read-rules c = search needs
+
+part-read-rules-start : tie.Need-part-read-rules-start
+part-read-rules-start c = search needs
+
+part-read-rules-end : tie.Need-part-read-rules-end
+part-read-rules-end c = search needs
+
 read-rules-requires : tie.Need-read-rules-requires
 read-rules-requires c κs = search needs
 
@@ -36,12 +45,15 @@ pub read-policy-spec : {M : Type 1} → statement M
 read-policy-spec =
     tie.close
     (tie.spec
-    read-head-requires
+    head-from-requires
     enum-known-number
     enum-known-n
     add-index
     mul-index
     element-write-index
+    sub-read-rules
+    part-read-rules-start
+    part-read-rules-end
     read-rules-requires
     returns
     returns-2)
