@@ -1,13 +1,11 @@
 -- Schema, policies and pass accepted: what the calls then come to.
 -- Rests on the definitions of the calls and on what acceptance gives.
-use mathlib.Core.Path.{_≡_, refl, sym, ap, subst, _∙_}
+use mathlib.Core.Path.{_≡_, subst}
 use mathlib.Core.List.{List}
-use Prim.Native.Nat.{ℕ, _<_}
-use lib.ListN.{length}
-use Rattle.fields.specs.Reading.{Got, got, bad}
-use Rattle.fields.specs.declared.Answer.{Answer}
+use Prim.Native.Nat.{ℕ}
+use Rattle.fields.specs.Reading.{got}
 use Rattle.fields.specs.Answers.{judged, success}
-use Rattle.fields.specs.Outcomes.{Outcome, judgedIn}
+use Rattle.fields.specs.Outcomes.{judgedIn}
 use Rattle.fields.proofs.Bytes.{Bytes}
 use Rattle.schema.specs.Schema.{Node, schema, schemaOf}
 use Rattle.schema.proofs.Sound.{Sound}

@@ -4,21 +4,21 @@ use mathlib.Core.Path.{_≡_, refl}
 use mathlib.Core.List.{List, [], _∷_}
 use Prim.Native.Nat.{ℕ}
 use lib.Count.{trailingZeros}
-use Rattle.fields.specs.Answers.{judged, success, refusal}
-use Rattle.fields.specs.Outcomes.{judgedIn, placed, Outcome, refused}
+use Rattle.fields.specs.Answers.{judged, success}
+use Rattle.fields.specs.Outcomes.{judgedIn, placed, refused}
 use Rattle.fields.specs.Reading.{part, be, whole, field, mark, many, ended}
 use Rattle.fields.specs.Writing.{spell, put}
 use Rattle.numbers.specs.Bits.{bit, ones, with, turned, withAll}
 use Rattle.schema.specs.Schema.{successors, links, number, listed, variable, variables, variablesOf, node, nodes, body, schema, schemaOf}
 use Rattle.policies.specs.Pass.{pass, inForce, forced, positions}
 use Rattle.policies.specs.Policies.{rankCount, ranks, condition, conditions, ruleOf, rule, rules, head, policy, onward, policiesFrom, policies, policiesOf, ruleFor, rankOf, conditionsOf}
-use Rattle.instances.specs.File.{led, due, noneBelow, lowestDue, valueWidth, valueOf, value, values, entryOf, entry, entries, instance, encodeValue, encodeValues, encodeEntry, encodeEntries, encode}
-use Rattle.instances.specs.Instance.{chooses, reaches, rightChoice, inDomain, inDomains, has}
+use Rattle.instances.specs.File.{reached, due, noneBelow, lowestDue, valueWidth, valueOf, value, values, entryOf, entry, entries, instance, encodeValue, encodeValues, encodeEntry, encodeEntries, encode}
+use Rattle.instances.specs.Instance.{chooses, reaches, rightChoice, inDomain, has}
 use Rattle.instances.specs.Plan.{plannedFrom, planned, valuesFrom, planOf}
 use Rattle.model.specs.Comparing.{compared, forbiddenValue, forbiddenEntry, forbiddenFrom, forbidden}
-use Rattle.model.specs.Order.{betterBy, better, entryAt, within, goodStep, good, asGood, choicesIn, sameChoices, noLower, noneLower}
+use Rattle.model.specs.Order.{betterBy, better, entryAt, within, goodStep, good, asGood}
 use Rattle.model.specs.Reconciling.{best, taken, canStep, can, plan, reconcile, own, both, restrict, restrictAll, combinedFrom, combined, least, leastEach, reconciled}
-use Rattle.model.specs.Satisfaction.{columnOf, rank, conditionAt, admits, meets, allowed, admitted, admittedFrom, choiceMeets, valuesMeet, meetsAll}
+use Rattle.model.specs.Satisfaction.{columnOf, rank, conditionAt, admits, meets, allowed, admitted, choiceMeets}
 use Rattle.calls.specs.Calls.{given, underSchema, reconciling, permitted, checking, comparing}
 
 -- the program's schema.bin
@@ -100,7 +100,7 @@ pub record Cases : Type 0 where
   pub apart : comparing two-schema [] 1 1 first-instance second-instance ≡ success 3
 
 pub cases : Cases
-unfolding trailingZeros example-schema example-policies three four signed-schema signed-policies mask-schema mask-policies shared-schema shared-instance two-schema first-instance second-instance buffer judged judgedIn placed part be whole field mark many ended spell put bit ones with turned withAll successors links number listed variable variables variablesOf node nodes body schema schemaOf pass inForce forced positions rankCount ranks condition conditions ruleOf rule rules head policy onward policiesFrom policies policiesOf ruleFor rankOf conditionsOf led due noneBelow lowestDue valueWidth valueOf value values entryOf entry entries instance encodeValue encodeValues encodeEntry encodeEntries encode chooses reaches rightChoice inDomain inDomains has plannedFrom planned valuesFrom planOf compared forbiddenValue forbiddenEntry forbiddenFrom forbidden betterBy better entryAt within goodStep good asGood choicesIn sameChoices noLower noneLower best taken canStep can plan reconcile own both restrict restrictAll combinedFrom combined least leastEach reconciled columnOf rank conditionAt admits meets allowed admitted admittedFrom choiceMeets valuesMeet meetsAll given underSchema reconciling permitted checking comparing
+unfolding trailingZeros example-schema example-policies three four signed-schema signed-policies mask-schema mask-policies shared-schema shared-instance two-schema first-instance second-instance buffer judged judgedIn placed part be whole field mark many ended spell put bit ones with turned withAll successors links number listed variable variables variablesOf node nodes body schema schemaOf pass inForce forced positions rankCount ranks condition conditions ruleOf rule rules head policy onward policiesFrom policies policiesOf ruleFor rankOf conditionsOf reached due noneBelow lowestDue valueWidth valueOf value values entryOf entry entries instance encodeValue encodeValues encodeEntry encodeEntries encode chooses reaches rightChoice inDomain has plannedFrom planned valuesFrom planOf compared forbiddenValue forbiddenEntry forbiddenFrom forbidden betterBy better entryAt within goodStep good asGood best taken canStep can plan reconcile own both restrict restrictAll combinedFrom combined least leastEach reconciled columnOf rank conditionAt admits meets allowed admitted choiceMeets given underSchema reconciling permitted checking comparing
 cases =
     record {
       line-1 = refl;

@@ -109,9 +109,6 @@ unfolding given
 given-untouched g out none = refused-untouched 13 0 0 out
 given-untouched g out (some i) = placed-untouched (encode g i) out
 
-positive : {n : ℕ} → 0 < n → n ≡ 0 → ⊥
-positive h e = omega (arith, h, e)
-
 pass-number : (a b : ℕ) {n o : ℕ} → pass a b ≡ bad n o → n ≡ 0 → ⊥
 unfolding pass
 pass-number a b = numbered (cond-numbered (leb a b && leb b (a + 1)) (got a 0) (bad 12 0) tt (λ e. omega arith))
@@ -121,7 +118,7 @@ unfolding reconciling underSchema checking comparing copying copyingUnder judged
 demand-1 f p a b s t out =
     record {
       schema-refused = λ {n} {o} e. record { number = of-schema.refused f e; reconcile = rw e; check = rw e; compare = rw e };
-      policies-refused = λ {g} {q} {n} {o} e h. record { number = positive (refusal-number g p h); reconcile = rw (e, h); check = rw (e, h); compare = rw (e, h) };
+      policies-refused = λ {g} {q} {n} {o} e h. record { number = refusal-number g p h; reconcile = rw (e, h); check = rw (e, h); compare = rw (e, h) };
       pass-refused = λ {g} {ps} {q} {r} {n} {o} e h x. record { number = pass-number a b x; reconcile = rw (e, h, x); check = rw (e, h, x); compare = rw (e, h, x) };
       instance-refused = λ A {n} {o} e. rw (A .schema-read, A .policies-read, A .pass-read, e);
       first-refused = λ A {n} {o} e. rw (A .schema-read, A .policies-read, A .pass-read, e);

@@ -13,13 +13,13 @@ use Rattle.fields.specs.Answers.{judged, success}
 use Rattle.fields.proofs.Bytes.{Bytes}
 use Rattle.schema.proofs.Sound.{Sound}
 use Rattle.policies.specs.Pass.{forced}
-use Rattle.instances.specs.Instance.{Entry, IsInstance}
+use Rattle.instances.specs.Instance.{Entry}
 use Rattle.instances.specs.File.{instance, encode}
-use Rattle.instances.proofs.RoundTrip.{read-is, read-encode, encode-read, encode-bytes}
+use Rattle.instances.proofs.IsInstance.{IsInstance}
+use Rattle.instances.proofs.RoundTrip.{read-is, read-encode, encode-read}
 use Rattle.instances.proofs.Refusals.{refused}
-use Rattle.model.specs.Satisfaction.{MeetsAll, MeetsInForce}
-use Rattle.model.specs.Order.{AsGood}
-use Rattle.model.specs.Comparing.{Verdict, compared, forbidden}
+use Rattle.model.specs.Comparing.{forbidden}
+use Rattle.model.proofs.Relations.{MeetsInForce, AsGood, Verdict}
 use Rattle.model.proofs.Satisfaction.{in-force-iff}
 use Rattle.model.proofs.Comparing.{forbidden-none, compared-says}
 use Rattle.calls.specs.Calls.{permitted, checking, comparing}

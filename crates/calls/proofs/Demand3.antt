@@ -1,6 +1,6 @@
 -- Demand 3, whole: the reconciler and its rivals.
 -- Rests on the model's theorem that the reconciled instance is right, and on what placing a file in a buffer gives.
-use mathlib.Core.Path.{_≡_, refl, sym, ap, subst, _∙_}
+use mathlib.Core.Path.{_≡_, refl, sym, ap, _∙_}
 use mathlib.Core.Logic.{_↔_}
 use mathlib.Core.Bool.{Bool, true, false, cond}
 use mathlib.Core.List.{List, _++_}
@@ -14,11 +14,12 @@ use Rattle.fields.specs.Answers.{success}
 use Rattle.fields.specs.Outcomes.{Outcome, refused, placed}
 use Rattle.fields.proofs.Bytes.{Bytes}
 use Rattle.policies.specs.Pass.{forced}
-use Rattle.instances.specs.Instance.{Entry, IsInstance}
+use Rattle.instances.specs.Instance.{Entry}
 use Rattle.instances.specs.File.{encode}
-use Rattle.model.specs.Satisfaction.{MeetsInForce}
+use Rattle.instances.proofs.IsInstance.{IsInstance}
 use Rattle.model.specs.Order.{better}
-use Rattle.model.specs.Reconciling.{Best, Right, reconciled}
+use Rattle.model.specs.Reconciling.{reconciled}
+use Rattle.model.proofs.Relations.{MeetsInForce, Best, Right}
 use Rattle.model.proofs.Right.{right-in-force}
 use Rattle.calls.specs.Calls.{given, reconciling}
 use Rattle.calls.proofs.Accepted.{Accepted, reconciling-is, sound-schema}

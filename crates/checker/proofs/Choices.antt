@@ -16,7 +16,7 @@ use Rattle.schema.specs.Schema.{Node, schemaOf, nodeAt}
 use Rattle.schema.specs.Table.{NodeIn, AtMost, SuccessorIs}
 use Rattle.policies.specs.Policies.{Policy, rankCount, rankOf, policiesOf, noPolicy}
 use Rattle.policies.specs.Pass.{forced}
-use Rattle.policies.specs.Index.{PolicyIn, RankIn, policyOf, indexOf}
+use Rattle.policies.specs.Index.{PolicyIn, RankIn, policyOf, IndexIn}
 use Rattle.instances.specs.Instance.{elem, chooses, rightChoice}
 use Rattle.model.specs.Satisfaction.{columnOf, rank, every, allowed, choiceMeets}
 use Rattle.conditions.specs.Held.{InForce}
@@ -91,7 +91,7 @@ module _ (schema p list : List ℕ) (a b n k r : ℕ) {rows : ℕ} (w : Asking (
       ∙ ap (λ (l : List Policy). every (λ (q : Policy). not (eqb (rankOf q n k) 255)) l) d
       ∙ ap (λ (z : ℕ). not (eqb z 255) && every (λ (q : Policy). not (eqb (rankOf q n k) 255)) (drop (r + 1) ps)) (sym e)
 
-  pub asking-policy : (index : List ℕ) → index ≡ indexOf (policiesOf (schemaOf schema) p) → r < rows → PolicyIn schema p index (getD list r 0)
+  pub asking-policy : (index : List ℕ) → IndexIn schema p index → r < rows → PolicyIn schema p index (getD list r 0)
   asking-policy index e h = record { index = e; below = f .inside r h }
 
   pub asking-no : {y : ℕ} → r < rows → y ≡ rankOf (policyOf schema p (getD list r 0)) n k → y ≡ 255 → false ≡ allowedColumn ps n k

@@ -16,7 +16,7 @@ use Rattle.fields.specs.Writing.{unsigned}
 use Rattle.fields.proofs.Back.{went, chosen, after-mark, any-back, ended-back, be1}
 use Rattle.fields.proofs.Bytes.{Bytes, spell-length}
 use Rattle.schema.specs.Schema.{Node, schemaOf, nodeAt}
-use Rattle.schema.specs.Table.{tableOf, Accepted, NodeIn, AtMost}
+use Rattle.schema.specs.Table.{Tabled, Accepted, NodeIn, AtMost}
 use Rattle.schema.specs.declared.Variable.{Variable}
 use Rattle.schema.specs.declared.Variable.the-variants.{Number, Listed}
 use Rattle.schema.proofs.Accepted.{sound}
@@ -39,7 +39,7 @@ use Rattle.checker.proofs.Values.{values-took}
 pub byte-wide : (s : List ℕ) (i : ℕ) → Bytes s → Fits w64 (getD s i 0)
 byte-wide s i b = let z = b i .fits in record { fits = omega arith }
 
-pub entry-node : (f t s : List ℕ) (p : ℕ) → t ≡ tableOf (schemaOf f) → EntryThere (schemaOf f) s p → NodeIn f t (getD s (p + 2) 0)
+pub entry-node : (f t s : List ℕ) (p : ℕ) → Tabled f t → EntryThere (schemaOf f) s p → NodeIn f t (getD s (p + 2) 0)
 entry-node f t s p e w = record { table = e; below = w .below }
 
 module _ (g : List Node) (ps : List Policy) (s : List ℕ) (p : ℕ) {c : Bool} (e : c ≡ choiceMeets g ps (choosing (getD s (p + 2) 0) (getD s (p + 3) 0))) where
@@ -230,7 +230,7 @@ module _ (g : List Node) (ps : List Policy) (s : List ℕ) {X : Forbidden} (left
       → AtMost 16 (valuesWidth (nodeAt g (getD s (p + 2) 0) .variables)) k → Walking g ps s X (left - 1) (p + 4 + k)
   walking-on {k = k} e t d = this .yes (sym e ∙ t) k (d .is)
 
-pub walking-node : (f t s : List ℕ) (ps : List Policy) {X : Forbidden} (left p : ℕ) → Walking (schemaOf f) ps s X left p → 0 < left → t ≡ tableOf (schemaOf f) → NodeIn f t (getD s (p + 2) 0)
+pub walking-node : (f t s : List ℕ) (ps : List Policy) {X : Forbidden} (left p : ℕ) → Walking (schemaOf f) ps s X left p → 0 < left → Tabled f t → NodeIn f t (getD s (p + 2) 0)
 walking-node f t s ps left p w h e = entry-node f t s p e (walking-entry (schemaOf f) ps s left p w h)
 
 pub walking-done : (g : List Node) (ps : List Policy) (s : List ℕ) {X : Forbidden} (left p : ℕ) → Walking g ps s X left p → left ≤ 0 → Nowhere ≡ X

@@ -5,17 +5,17 @@ ghost use Prim.Native.Nat.{_+_, _<_, _≤_};
 ghost use lib.ListN.{length};
 ghost use Rattle.numbers.specs.Bits.{bit};
 ghost use Rattle.schema.specs.Schema.{schemaOf, nodeAt};
-ghost use Rattle.schema.specs.Table.{tableOf, Accepted, NodeIn, AtMost};
+ghost use Rattle.schema.specs.Table.{Tabled, Accepted, NodeIn, AtMost, Room};
 ghost use Rattle.policies.specs.Policies.{policiesOf};
 ghost use Rattle.policies.specs.Pass.{forced};
-ghost use Rattle.policies.specs.Index.{indexOf, Indexed, RankIn};
+ghost use Rattle.policies.specs.Index.{IndexIn, Indexed, RankIn, IndexRoom};
 ghost use Rattle.instances.specs.Instance.{rightChoice};
 ghost use Rattle.instances.specs.File.{values};
 ghost use Rattle.instances.specs.Lookup.{instanceOf, Readable};
 ghost use Rattle.model.specs.Satisfaction.{columnOf, choiceMeets};
 ghost use Rattle.model.specs.Comparing.{forbiddenValue, forbiddenEntry, forbidden};
 ghost use Rattle.calls.specs.Calls.{permitted, checking};
-ghost use Rattle.conditions.specs.Held.{InForce};
+ghost use Rattle.conditions.specs.Held.{InForce, Combined};
 ghost use Rattle.checker.specs.Checks.{forbiddenIn, allowedColumn, choosing, widthOf, admitsAt, valuesIn, ValuesThere, entryIn, EntryThere, afterPass, afterPolicies, afterSchema};
 use conditions::Conditions;
 use fields::Answer;
@@ -29,7 +29,7 @@ enum Forbidden {
 }
 
 // The place of x among node n's successors.
-fn column_of(schema: &[u8], table: &[usize; 320], n: usize, x: usize) -> usize
+fn column_of(schema: &[u8], table: &[usize], n: usize, x: usize) -> usize
     requires { ⌜ NodeIn (now schema) (now table) n ⌝ }
     ensures { λ r. ⌜ AtMost 8 (columnOf x (nodeAt (schemaOf (now (schema .entry))) n .successors)) r ⌝ }
 {
@@ -48,7 +48,7 @@ fn column_of(schema: &[u8], table: &[usize; 320], n: usize, x: usize) -> usize
 fn column_allowed(
     schema: &[u8],
     p: &[u8],
-    index: &[usize; 1040],
+    index: &[usize],
     list: &[usize; 16],
     rows: usize,
     a: u16,
@@ -56,7 +56,7 @@ fn column_allowed(
     n: usize,
     k: usize,
 ) -> bool
-    requires { ⌜ now index ≡ indexOf (policiesOf (schemaOf (now schema)) (now p)) ⌝ }
+    requires { ⌜ IndexIn (now schema) (now p) (now index) ⌝ }
     requires { ⌜ InForce (now schema) (now p) (now list) rows a b ⌝ }
     requires { ⌜ RankIn (now schema) n k ⌝ }
     ensures { λ r. ⌜ r ≡ allowedColumn (forced a b (policiesOf (schemaOf (now (schema .entry))) (now (p .entry)))) n k ⌝ }
@@ -74,9 +74,9 @@ fn column_allowed(
 // Whether every policy in force allows choice x of node n.
 fn choice_allowed(
     schema: &[u8],
-    table: &[usize; 320],
+    table: &[usize],
     p: &[u8],
-    index: &[usize; 1040],
+    index: &[usize],
     list: &[usize; 16],
     rows: usize,
     a: u16,
@@ -85,7 +85,7 @@ fn choice_allowed(
     x: usize,
 ) -> bool
     requires { ⌜ NodeIn (now schema) (now table) n ⌝ }
-    requires { ⌜ now index ≡ indexOf (policiesOf (schemaOf (now schema)) (now p)) ⌝ }
+    requires { ⌜ IndexIn (now schema) (now p) (now index) ⌝ }
     requires { ⌜ InForce (now schema) (now p) (now list) rows a b ⌝ }
     requires { ⌜ rightChoice (nodeAt (schemaOf (now schema)) n) x ≡ true ⌝ }
     ensures { λ r. ⌜ r ≡ choiceMeets (schemaOf (now (schema .entry))) (forced a b (policiesOf (schemaOf (now (schema .entry))) (now (p .entry)))) (choosing n x) ⌝ }
@@ -130,12 +130,34 @@ fn admits(c: Conditions, k: usize, number: bool, s: &[u8], at: usize) -> bool
     has_value(c.mask[k], s[at])
 }
 
+// The combined conditions of node n.
+fn conditions_of(
+    schema: &[u8],
+    table: &[usize],
+    p: &[u8],
+    index: &[usize],
+    list: &[usize; 16],
+    rows: usize,
+    a: u16,
+    b: u16,
+    n: usize,
+) -> Conditions
+    requires { ⌜ NodeIn (now schema) (now table) n ⌝ }
+    requires { ⌜ IndexIn (now schema) (now p) (now index) ⌝ }
+    requires { ⌜ InForce (now schema) (now p) (now list) rows a b ⌝ }
+    ensures { λ r. ⌜ Combined (now (schema .entry)) (now (p .entry)) a b n r ⌝ }
+{
+    let mut places = [0usize; 16];
+    conditions::find(schema, p, index, list, rows, a, b, n, &mut places);
+    conditions::combine(schema, table, p, &places, rows, a, b, n)
+}
+
 // The first of node n's values, from a place of the file on, that a policy in force does not admit.
 fn first_value(
     schema: &[u8],
-    table: &[usize; 320],
+    table: &[usize],
     p: &[u8],
-    index: &[usize; 1040],
+    index: &[usize],
     list: &[usize; 16],
     rows: usize,
     a: u16,
@@ -145,13 +167,13 @@ fn first_value(
     from: usize,
 ) -> Forbidden
     requires { ⌜ NodeIn (now schema) (now table) n ⌝ }
-    requires { ⌜ now index ≡ indexOf (policiesOf (schemaOf (now schema)) (now p)) ⌝ }
+    requires { ⌜ IndexIn (now schema) (now p) (now index) ⌝ }
     requires { ⌜ InForce (now schema) (now p) (now list) rows a b ⌝ }
     requires { ⌜ ValuesThere (schemaOf (now schema)) n (now s) from ⌝ }
     ensures { λ r. ⌜ r ≡ forbiddenIn (forbiddenValue (forced a b (policiesOf (schemaOf (now (schema .entry))) (now (p .entry)))) n 0 (nodeAt (schemaOf (now (schema .entry))) n .variables) (valuesIn (values (now (s .entry)) (nodeAt (schemaOf (now (schema .entry))) n .variables) from)) from) ⌝ }
 {
     let v = schema::variable_count(schema, table, n);
-    let c = conditions::combine(schema, table, p, index, list, rows, a, b, n);
+    let c = conditions_of(schema, table, p, index, list, rows, a, b, n);
     let mut at = from;
     let mut k: usize = 0;
     while k < v {
@@ -169,9 +191,9 @@ fn first_value(
 // The first forbidden field of the entry that stands at a place of the file.
 fn first_in_entry(
     schema: &[u8],
-    table: &[usize; 320],
+    table: &[usize],
     p: &[u8],
-    index: &[usize; 1040],
+    index: &[usize],
     list: &[usize; 16],
     rows: usize,
     a: u16,
@@ -179,8 +201,8 @@ fn first_in_entry(
     s: &[u8],
     at: usize,
 ) -> Forbidden
-    requires { ⌜ now table ≡ tableOf (schemaOf (now schema)) ⌝ }
-    requires { ⌜ now index ≡ indexOf (policiesOf (schemaOf (now schema)) (now p)) ⌝ }
+    requires { ⌜ Tabled (now schema) (now table) ⌝ }
+    requires { ⌜ IndexIn (now schema) (now p) (now index) ⌝ }
     requires { ⌜ InForce (now schema) (now p) (now list) rows a b ⌝ }
     requires { ⌜ EntryThere (schemaOf (now schema)) (now s) at ⌝ }
     ensures { λ r. ⌜ r ≡ forbiddenIn (forbiddenEntry (schemaOf (now (schema .entry))) (forced a b (policiesOf (schemaOf (now (schema .entry))) (now (p .entry)))) (entryIn (schemaOf (now (schema .entry))) (now (s .entry)) at) at) ⌝ }
@@ -196,9 +218,9 @@ fn first_in_entry(
 // The first forbidden field of an accepted instance file.
 fn first_forbidden(
     schema: &[u8],
-    table: &[usize; 320],
+    table: &[usize],
     p: &[u8],
-    index: &[usize; 1040],
+    index: &[usize],
     list: &[usize; 16],
     rows: usize,
     a: u16,
@@ -206,8 +228,8 @@ fn first_forbidden(
     s: &[u8],
 ) -> Forbidden
     requires { ⌜ Accepted (now schema) ⌝ }
-    requires { ⌜ now table ≡ tableOf (schemaOf (now schema)) ⌝ }
-    requires { ⌜ now index ≡ indexOf (policiesOf (schemaOf (now schema)) (now p)) ⌝ }
+    requires { ⌜ Tabled (now schema) (now table) ⌝ }
+    requires { ⌜ IndexIn (now schema) (now p) (now index) ⌝ }
     requires { ⌜ InForce (now schema) (now p) (now list) rows a b ⌝ }
     requires { ⌜ Readable (schemaOf (now schema)) (now s) ⌝ }
     ensures { λ r. ⌜ r ≡ forbiddenIn (forbidden (schemaOf (now (schema .entry))) (forced a b (policiesOf (schemaOf (now (schema .entry))) (now (p .entry)))) (instanceOf (schemaOf (now (schema .entry))) (now (s .entry)))) ⌝ }
@@ -232,16 +254,16 @@ fn first_forbidden(
 // The answer for an accepted instance.
 fn judge(
     schema: &[u8],
-    table: &[usize; 320],
+    table: &[usize],
     p: &[u8],
-    index: &[usize; 1040],
+    index: &[usize],
     count: usize,
     a: u16,
     b: u16,
     s: &[u8],
 ) -> Answer
     requires { ⌜ Accepted (now schema) ⌝ }
-    requires { ⌜ now table ≡ tableOf (schemaOf (now schema)) ⌝ }
+    requires { ⌜ Tabled (now schema) (now table) ⌝ }
     requires { ⌜ Indexed (now schema) (now p) (now index) count ⌝ }
     requires { ⌜ Readable (schemaOf (now schema)) (now s) ⌝ }
     ensures { λ r. ⌜ r ≡ permitted (forbidden (schemaOf (now (schema .entry))) (forced a b (policiesOf (schemaOf (now (schema .entry))) (now (p .entry)))) (instanceOf (schemaOf (now (schema .entry))) (now (s .entry)))) ⌝ }
@@ -267,16 +289,16 @@ fn judge(
 // The answer after schema, policies and pass.
 fn check_instance(
     schema: &[u8],
-    table: &[usize; 320],
+    table: &[usize],
     p: &[u8],
-    index: &[usize; 1040],
+    index: &[usize],
     count: usize,
     a: u16,
     b: u16,
     s: &[u8],
 ) -> Answer
     requires { ⌜ Accepted (now schema) ⌝ }
-    requires { ⌜ now table ≡ tableOf (schemaOf (now schema)) ⌝ }
+    requires { ⌜ Tabled (now schema) (now table) ⌝ }
     requires { ⌜ Indexed (now schema) (now p) (now index) count ⌝ }
     ensures { λ r. ⌜ r ≡ afterPass (schemaOf (now (schema .entry))) (policiesOf (schemaOf (now (schema .entry))) (now (p .entry))) a b (now (s .entry)) ⌝ }
 {
@@ -294,16 +316,16 @@ fn check_instance(
 // The answer after schema and policies.
 fn check_days(
     schema: &[u8],
-    table: &[usize; 320],
+    table: &[usize],
     p: &[u8],
-    index: &[usize; 1040],
+    index: &[usize],
     count: usize,
     a: u16,
     b: u16,
     s: &[u8],
 ) -> Answer
     requires { ⌜ Accepted (now schema) ⌝ }
-    requires { ⌜ now table ≡ tableOf (schemaOf (now schema)) ⌝ }
+    requires { ⌜ Tabled (now schema) (now table) ⌝ }
     requires { ⌜ Indexed (now schema) (now p) (now index) count ⌝ }
     ensures { λ r. ⌜ r ≡ afterPolicies (schemaOf (now (schema .entry))) (policiesOf (schemaOf (now (schema .entry))) (now (p .entry))) a b (now (s .entry)) ⌝ }
 {
@@ -318,25 +340,49 @@ fn check_days(
     }
 }
 
-// The answer after the schema.
-fn check_policies(schema: &[u8], p: &[u8], a: u16, b: u16, s: &[u8]) -> Answer
+// The answer after the schema, with room for the table of its nodes and for the index of the policies.
+fn check_in(
+    schema: &[u8],
+    nodes: usize,
+    p: &[u8],
+    a: u16,
+    b: u16,
+    s: &[u8],
+    table: &mut [usize],
+    index: &mut [usize],
+) -> Answer
     requires { ⌜ Accepted (now schema) ⌝ }
+    requires { ⌜ AtMost 64 (length (schemaOf (now schema))) nodes ⌝ }
+    requires { ⌜ Room (now schema) (now table) ⌝ }
+    requires { ⌜ IndexRoom (now schema) (now index) ⌝ }
     ensures { λ r. ⌜ r ≡ afterSchema (schemaOf (now (schema .entry))) (now (p .entry)) a b (now (s .entry)) ⌝ }
 {
-    let table = schema::table_of(schema);
-    let nodes = schema::count_of(schema);
-    let mut index = [0usize; 1040];
-    match policies::read_policies(schema, &table, nodes, p, &mut index) {
+    schema::fill_table(schema, table);
+    match policies::read_policies(schema, table, nodes, p, index) {
         PoliciesRead::Refused { number, offset } => Answer {
             number,
             file: 2,
             offset,
             value: 0,
         },
-        PoliciesRead::Policies { count } => {
-            check_days(schema, &table, p, &index, count, a, b, s)
-        }
+        PoliciesRead::Policies { count } => { check_days(schema, table, p, index, count, a, b, s) }
     }
+}
+
+// The answer after the schema; few nodes have a short table and a short index.
+fn check_policies(schema: &[u8], p: &[u8], a: u16, b: u16, s: &[u8]) -> Answer
+    requires { ⌜ Accepted (now schema) ⌝ }
+    ensures { λ r. ⌜ r ≡ afterSchema (schemaOf (now (schema .entry))) (now (p .entry)) a b (now (s .entry)) ⌝ }
+{
+    let nodes = schema::count_of(schema);
+    if nodes <= 16 {
+        let mut table = [0usize; 128];
+        let mut index = [0usize; 272];
+        return check_in(schema, nodes, p, a, b, s, &mut table, &mut index);
+    }
+    let mut table = [0usize; 320];
+    let mut index = [0usize; 1040];
+    check_in(schema, nodes, p, a, b, s, &mut table, &mut index)
 }
 
 // The answer for schema, policies, a pass from day a to day b and an instance.

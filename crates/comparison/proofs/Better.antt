@@ -17,27 +17,18 @@ use Rattle.policies.specs.Policies.{Rule, Policy, rankCount, policiesOf, noPoli
 use Rattle.policies.specs.Pass.{forced}
 use Rattle.policies.specs.Index.{PolicyIn, RankIn, policyOf}
 use Rattle.policies.proofs.Sound.{stood, Says, silent, speaks, says}
+use Rattle.instances.proofs.Reader.{links, links-more, links-none}
 use Rattle.model.specs.Satisfaction.{columnOf, rank}
 use Rattle.model.specs.Order.{betterBy, better}
 use Rattle.comparison.specs.Comparison.{Ranking}
 
--- ---- a node's successors, from successor j on
-
-abbrev pub links : List Node → ℕ → List ℕ
-links g n = nodeAt g n .successors
+-- ---- the place of a number among a node's successors, from successor j on
 
 module _ (g : List Node) (n j : ℕ) {c : ℕ} where
-  pub links-more : {y : ℕ} → AtMost 8 (length (links g n)) c → j < c → SuccessorIs g n j y → drop j (links g n) ≡ y ∷ drop (j + 1) (links g n)
-  links-more {y} l h e = rw (add-one j) (drop-cons (links g n) j 0 (omega (arith, l .is)) ∙ ap (λ (z : ℕ). z ∷ drop (suc j) (links g n)) (sym (e .is)))
-
-  pub links-none : AtMost 8 (length (links g n)) c → c ≤ j → drop j (links g n) ≡ []
-  links-none l h = drop-of-length-le (links g n) {i = j} (omega (arith, l .is))
-
-  -- the place of a number among them
   pub column-found : {x y X : ℕ} → j + columnOf x (drop j (links g n)) ≡ X → AtMost 8 (length (links g n)) c → j < c → SuccessorIs g n j y → y ≡ x → j ≡ X
   unfolding columnOf
   column-found {x} {y} v l h e q =
-      let z : columnOf x (drop j (links g n)) ≡ 0 = ap (columnOf x) (links-more l h e) ∙ ap (λ (b : Bool). cond b 0 (suc (columnOf x (drop (j + 1) (links g n))))) (eq-eqb y x q) in
+      let z : columnOf x (drop j (links g n)) ≡ 0 = ap (columnOf x) (links-more g n j l h e) ∙ ap (λ (b : Bool). cond b 0 (suc (columnOf x (drop (j + 1) (links g n))))) (eq-eqb y x q) in
       omega arith
 
   pub column-more : {x y X : ℕ} → j + columnOf x (drop j (links g n)) ≡ X → AtMost 8 (length (links g n)) c → j < c → SuccessorIs g n j y → (y ≡ x → ⊥)
@@ -45,12 +36,12 @@ module _ (g : List Node) (n j : ℕ) {c : ℕ} where
   unfolding columnOf
   column-more {x} {y} v l h e q =
       let z : columnOf x (drop j (links g n)) ≡ suc (columnOf x (drop (j + 1) (links g n))) =
-      ap (columnOf x) (links-more l h e) ∙ ap (λ (b : Bool). cond b 0 (suc (columnOf x (drop (j + 1) (links g n))))) (ne-eqb y x q) in
+      ap (columnOf x) (links-more g n j l h e) ∙ ap (λ (b : Bool). cond b 0 (suc (columnOf x (drop (j + 1) (links g n))))) (ne-eqb y x q) in
       omega arith
 
   pub column-done : (x : ℕ) {X : ℕ} → j + columnOf x (drop j (links g n)) ≡ X → AtMost 8 (length (links g n)) c → c ≤ j → j ≡ X
   unfolding columnOf
-  column-done x v l h = let z : columnOf x (drop j (links g n)) ≡ 0 = ap (columnOf x) (links-none l h) in omega arith
+  column-done x v l h = let z : columnOf x (drop j (links g n)) ≡ 0 = ap (columnOf x) (links-none g n j l h) in omega arith
 
 pub column-start : (g : List Node) (n x : ℕ) → 0 + columnOf x (drop 0 (links g n)) ≡ columnOf x (links g n)
 column-start g n x = zero-add (columnOf x (links g n))

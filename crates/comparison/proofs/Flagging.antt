@@ -11,17 +11,18 @@ use lib.ListN.{length, getD, set, replicate, length-set, length-replicate}
 use lib.Seq.{getD-set-same, getD-set-other}
 use Rattle.fields.proofs.Bytes.{Bytes}
 use Rattle.schema.specs.Schema.{Node, schemaOf}
-use Rattle.schema.specs.Table.{tableOf, Accepted, NodeIn, AtMost}
+use Rattle.schema.specs.Table.{Tabled, Accepted, NodeIn, AtMost}
 use Rattle.schema.proofs.Sound.{Sound}
 use Rattle.schema.proofs.Accepted.{sound}
 use Rattle.policies.specs.Policies.{Policy, policiesOf}
 use Rattle.policies.specs.Pass.{forced}
-use Rattle.instances.specs.Instance.{Entry, Reached, root, Ascending, IsInstance}
+use Rattle.instances.specs.Instance.{Entry}
 use Rattle.instances.specs.Lookup.{instanceOf, Readable, choicesOf}
+use Rattle.instances.proofs.IsInstance.{Reached, root, Ascending, IsInstance}
 use Rattle.instances.proofs.Lookup.{choice-at, choice-none}
-use Rattle.instances.proofs.RoundTrip.{read-is}
+use Rattle.instances.proofs.RoundTrip.{read-is, reached-below}
 use Rattle.model.specs.Order.{choiceOf, choiceAt, better, goodStep, good, asGood}
-use Rattle.model.proofs.Entries.{Found, found, missing, lookup, reached-below}
+use Rattle.model.proofs.Entries.{Found, found, missing, lookup}
 use Rattle.model.proofs.Order.{good-by-table}
 use Rattle.comparison.specs.Comparison.{flagged, byChoice, byNode}
 use Rattle.comparison.proofs.Good.{flag-at}
@@ -76,7 +77,7 @@ module _ (schema p s t : List ℕ) (a b : ℕ) where
       }
 
   module _ (flags : List ℕ) (n : ℕ) (w : Flagging schema p s t a b flags n) where
-    pub flagging-node : (table : List ℕ) → 0 < n → table ≡ tableOf g → NodeIn schema table (n - 1)
+    pub flagging-node : (table : List ℕ) → 0 < n → Tabled schema table → NodeIn schema table (n - 1)
     flagging-node table h e = record { table = e; below = let z = w .below in omega arith }
 
     pub flagging-small : 0 < n → n - 1 < 64

@@ -14,11 +14,11 @@ use Rattle.schema.specs.Table.{AtMost, SuccessorIs}
 use Rattle.policies.specs.Policies.{Policy}
 use Rattle.policies.proofs.Nodes.{nodes-few}
 use Rattle.instances.specs.Instance.{chooses}
+use Rattle.instances.proofs.Reader.{links, links-more, links-none}
 use Rattle.model.specs.Satisfaction.{every}
 use Rattle.model.specs.Order.{better}
 use Rattle.model.proofs.Ranks.{better-strict}
 use Rattle.comparison.specs.Comparison.{flagged, byChoice, byNode}
-use Rattle.comparison.proofs.Better.{links, links-more, links-none}
 
 -- ---- one flag
 

@@ -1,16 +1,15 @@
 -- What the parts of the comparison compute (01, 'The order', 'Checking and comparing').
 use Prim.Native.Nat.{ℕ}
-use mathlib.Core.Path.{_≡_}
 use mathlib.Core.List.{List}
 use mathlib.Core.Bool.{Bool, cond, _&&_, _||_}
 use lib.Dec.{eqb, ltb}
 use lib.ListN.{getD}
 use Rattle.fields.specs.declared.Answer.{Answer}
 use Rattle.fields.specs.Answers.{judged, success}
-use Rattle.schema.specs.Schema.{Node, nodeAt, schemaOf}
-use Rattle.policies.specs.Policies.{Policy, policies, policiesOf}
+use Rattle.schema.specs.Schema.{Node, nodeAt}
+use Rattle.policies.specs.Policies.{Policy, policies}
 use Rattle.policies.specs.Pass.{pass, forced}
-use Rattle.policies.specs.Index.{indexOf}
+use Rattle.policies.specs.Index.{IndexIn}
 use Rattle.instances.specs.Instance.{chooses}
 use Rattle.instances.specs.File.{instance}
 use Rattle.model.specs.Satisfaction.{every}
@@ -19,7 +18,7 @@ use Rattle.conditions.specs.Held.{InForce}
 
 -- the index of the file p, and the policies in force
 pub record Ranking (schema p index list : List ℕ) (rows a b : ℕ) : Type 0 where
-  pub index-is : index ≡ indexOf (policiesOf (schemaOf schema) p)
+  pub index-is : IndexIn schema p index
   pub in-force : InForce schema p list rows a b
 
 -- a table of flags, as a test of nodes

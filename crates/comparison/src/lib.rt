@@ -1,12 +1,12 @@
 // The comparison of two instances: nodes from the highest to 0, each once.
 ghost use mathlib.Core.Path.{_≡_};
 ghost use mathlib.Core.Bool.{cond};
-ghost use lib.ListN.{getD};
+ghost use lib.ListN.{length, getD};
 ghost use Rattle.schema.specs.Schema.{schemaOf, nodeAt};
-ghost use Rattle.schema.specs.Table.{tableOf, Accepted, NodeIn};
+ghost use Rattle.schema.specs.Table.{Tabled, Accepted, NodeIn, AtMost, Room};
 ghost use Rattle.policies.specs.Policies.{policiesOf, rankOf};
 ghost use Rattle.policies.specs.Pass.{forced};
-ghost use Rattle.policies.specs.Index.{PolicyIn, Indexed, policyOf};
+ghost use Rattle.policies.specs.Index.{PolicyIn, Indexed, IndexRoom, policyOf};
 ghost use Rattle.instances.specs.Lookup.{instanceOf, Readable};
 ghost use Rattle.model.specs.Satisfaction.{columnOf, every};
 ghost use Rattle.model.specs.Order.{better, asGood};
@@ -18,7 +18,7 @@ use fields::Step;
 use policies::PoliciesRead;
 
 // The place of x among node n's successors, their number where it is none of them.
-fn column_of(schema: &[u8], table: &[usize; 320], n: usize, x: usize) -> usize
+fn column_of(schema: &[u8], table: &[usize], n: usize, x: usize) -> usize
     requires { ⌜ NodeIn (now schema) (now table) n ⌝ }
     ensures { λ r. ⌜ r ≡ columnOf x (nodeAt (schemaOf (now (schema .entry))) n .successors) ⌝ }
 {
@@ -36,9 +36,9 @@ fn column_of(schema: &[u8], table: &[usize; 320], n: usize, x: usize) -> usize
 // Policy j's rank in column k of node n, 0 where there is no such column.
 fn rank_at(
     schema: &[u8],
-    table: &[usize; 320],
+    table: &[usize],
     p: &[u8],
-    index: &[usize; 1040],
+    index: &[usize],
     j: usize,
     n: usize,
     k: usize,
@@ -56,9 +56,9 @@ fn rank_at(
 // Whether x is better than y at node n.
 fn is_better(
     schema: &[u8],
-    table: &[usize; 320],
+    table: &[usize],
     p: &[u8],
-    index: &[usize; 1040],
+    index: &[usize],
     list: &[usize; 16],
     rows: usize,
     a: u16,
@@ -89,7 +89,7 @@ fn is_better(
 }
 
 // Whether every successor of node n is flagged.
-fn all_flagged(schema: &[u8], table: &[usize; 320], n: usize, flags: &[u8; 64]) -> bool
+fn all_flagged(schema: &[u8], table: &[usize], n: usize, flags: &[u8; 64]) -> bool
     requires { ⌜ NodeIn (now schema) (now table) n ⌝ }
     ensures { λ r. ⌜ r ≡ every (flagged (now (flags .entry))) (nodeAt (schemaOf (now (schema .entry))) n .successors) ⌝ }
 {
@@ -118,9 +118,9 @@ fn is_flagged(flags: &[u8; 64], s: usize) -> bool
 // Whether choice x is at least as good as y at node n, which chooses.
 fn is_good_choice(
     schema: &[u8],
-    table: &[usize; 320],
+    table: &[usize],
     p: &[u8],
-    index: &[usize; 1040],
+    index: &[usize],
     list: &[usize; 16],
     rows: usize,
     a: u16,
@@ -149,9 +149,9 @@ fn wide(x: u8) -> usize
 // Whether the first instance is at least as good as the second at node n, by the flags of the nodes above it.
 fn is_good(
     schema: &[u8],
-    table: &[usize; 320],
+    table: &[usize],
     p: &[u8],
-    index: &[usize; 1040],
+    index: &[usize],
     list: &[usize; 16],
     rows: usize,
     a: u16,
@@ -185,9 +185,9 @@ fn flag(yes: bool) -> u8
 // Whether the first instance is at least as good as the second.
 fn as_good(
     schema: &[u8],
-    table: &[usize; 320],
+    table: &[usize],
     p: &[u8],
-    index: &[usize; 1040],
+    index: &[usize],
     list: &[usize; 16],
     rows: usize,
     a: u16,
@@ -196,7 +196,7 @@ fn as_good(
     t: &[u8],
 ) -> bool
     requires { ⌜ Accepted (now schema) ⌝ }
-    requires { ⌜ now table ≡ tableOf (schemaOf (now schema)) ⌝ }
+    requires { ⌜ Tabled (now schema) (now table) ⌝ }
     requires { ⌜ Ranking (now schema) (now p) (now index) (now list) rows a b ⌝ }
     requires { ⌜ Readable (schemaOf (now schema)) (now s) ⌝ }
     requires { ⌜ Readable (schemaOf (now schema)) (now t) ⌝ }
@@ -232,9 +232,9 @@ fn verdict_of(first: bool, second: bool) -> usize
 // The verdict on two accepted instances.
 fn compare_accepted(
     schema: &[u8],
-    table: &[usize; 320],
+    table: &[usize],
     p: &[u8],
-    index: &[usize; 1040],
+    index: &[usize],
     count: usize,
     a: u16,
     b: u16,
@@ -242,7 +242,7 @@ fn compare_accepted(
     t: &[u8],
 ) -> usize
     requires { ⌜ Accepted (now schema) ⌝ }
-    requires { ⌜ now table ≡ tableOf (schemaOf (now schema)) ⌝ }
+    requires { ⌜ Tabled (now schema) (now table) ⌝ }
     requires { ⌜ Indexed (now schema) (now p) (now index) count ⌝ }
     requires { ⌜ Readable (schemaOf (now schema)) (now s) ⌝ }
     requires { ⌜ Readable (schemaOf (now schema)) (now t) ⌝ }
@@ -258,9 +258,9 @@ fn compare_accepted(
 // The instances, files 4 and 5, once schema, policies and pass are accepted.
 fn compare_instances(
     schema: &[u8],
-    table: &[usize; 320],
+    table: &[usize],
     p: &[u8],
-    index: &[usize; 1040],
+    index: &[usize],
     count: usize,
     a: u16,
     b: u16,
@@ -268,7 +268,7 @@ fn compare_instances(
     t: &[u8],
 ) -> Answer
     requires { ⌜ Accepted (now schema) ⌝ }
-    requires { ⌜ now table ≡ tableOf (schemaOf (now schema)) ⌝ }
+    requires { ⌜ Tabled (now schema) (now table) ⌝ }
     requires { ⌜ Indexed (now schema) (now p) (now index) count ⌝ }
     ensures { λ r. ⌜ r ≡ withPolicies (schemaOf (now (schema .entry))) (forced a b (policiesOf (schemaOf (now (schema .entry))) (now (p .entry)))) (now (s .entry)) (now (t .entry)) ⌝ }
 {
@@ -296,15 +296,26 @@ fn compare_instances(
     }
 }
 
-// Policies and pass, files 2 and 3, once the schema is accepted.
-fn compare_policies(schema: &[u8], p: &[u8], a: u16, b: u16, s: &[u8], t: &[u8]) -> Answer
+// Policies and pass, files 2 and 3, once the schema is accepted, with room for its table and for the index.
+fn compare_in(
+    schema: &[u8],
+    nodes: usize,
+    p: &[u8],
+    a: u16,
+    b: u16,
+    s: &[u8],
+    t: &[u8],
+    table: &mut [usize],
+    index: &mut [usize],
+) -> Answer
     requires { ⌜ Accepted (now schema) ⌝ }
+    requires { ⌜ AtMost 64 (length (schemaOf (now schema))) nodes ⌝ }
+    requires { ⌜ Room (now schema) (now table) ⌝ }
+    requires { ⌜ IndexRoom (now schema) (now index) ⌝ }
     ensures { λ r. ⌜ r ≡ withSchema (schemaOf (now (schema .entry))) (now (p .entry)) a b (now (s .entry)) (now (t .entry)) ⌝ }
 {
-    let table = schema::table_of(schema);
-    let nodes = schema::count_of(schema);
-    let mut index = [0usize; 1040];
-    match policies::read_policies(schema, &table, nodes, p, &mut index) {
+    schema::fill_table(schema, table);
+    match policies::read_policies(schema, table, nodes, p, index) {
         PoliciesRead::Refused { number, offset } => Answer {
             number,
             file: 2,
@@ -319,10 +330,26 @@ fn compare_policies(schema: &[u8], p: &[u8], a: u16, b: u16, s: &[u8], t: &[u8])
                 value: 0,
             },
             Step::Next { at: _ } => {
-                compare_instances(schema, &table, p, &index, count, a, b, s, t)
+                compare_instances(schema, table, p, index, count, a, b, s, t)
             }
         },
     }
+}
+
+// Few nodes have a short table and a short index.
+fn compare_policies(schema: &[u8], p: &[u8], a: u16, b: u16, s: &[u8], t: &[u8]) -> Answer
+    requires { ⌜ Accepted (now schema) ⌝ }
+    ensures { λ r. ⌜ r ≡ withSchema (schemaOf (now (schema .entry))) (now (p .entry)) a b (now (s .entry)) (now (t .entry)) ⌝ }
+{
+    let nodes = schema::count_of(schema);
+    if nodes <= 16 {
+        let mut table = [0usize; 128];
+        let mut index = [0usize; 272];
+        return compare_in(schema, nodes, p, a, b, s, t, &mut table, &mut index);
+    }
+    let mut table = [0usize; 320];
+    let mut index = [0usize; 1040];
+    compare_in(schema, nodes, p, a, b, s, t, &mut table, &mut index)
 }
 
 // The comparison: schema, policies, pass, first and second instance, then the verdict 0 alike, 1 first better,

@@ -1,5 +1,5 @@
 pub mod Held
-pub mod Own
-pub mod Narrow
-pub mod InForce
+pub mod Said
+pub mod Narrowing
+pub mod Combining
 pub mod Listed

@@ -1,5 +1,5 @@
--- Bytes that stand at a place of a file, and a field that is read there: put then read and read then put, by one law each over the width.
--- Rests on the definitions of `be`, `whole`, `field`, `mark` and `spell`.
+-- Bytes that stand at a place of a file, and a field that is read there: put then read and read then put, by one law each over the width, and for a signed number.
+-- Rests on the definitions of `be`, `whole`, `field`, `mark`, `spell` and `put`.
 use mathlib.Core.Path.{_≡_, refl, ap, sym, _∙_, subst}
 use mathlib.Core.Bool.{Bool, true}
 use mathlib.Core.List.{List, [], _∷_, _++_, append-assoc}
@@ -8,12 +8,16 @@ use native.Mathlib.Omega.{arith}
 use native.Mathlib.Nat.{add-zero, zero-add, pow-suc}
 use borrow.Author.Tests.{eq-eqb, eqb-true}
 use lib.Dec.{eqb}
-use lib.ListN.{length, getD, length-append}
-use lib.Seq.{getD-append-seam, ext-getD}
-use Rattle.fields.specs.Reading.{Got, got, part, be, field, mark}
-use Rattle.fields.specs.Writing.{spell}
+use lib.IntN.{ℤ}
+use lib.ListN.{length, getD, take, drop, length-append, take-append-drop}
+use lib.Seq.{getD-append-seam, ext-getD, length-take-le, drop-cons}
+use mir.Val.{SFits}
+use mir.Syntax.{w32}
+use Rattle.fields.specs.Reading.{Got, got, part, be, field, mark, signed}
+use Rattle.fields.specs.Writing.{spell, put, unsigned}
 use Rattle.fields.proofs.Bytes.{Bytes, be-below, spell-length}
 use Rattle.fields.proofs.Reading.{whole-got}
+use Rattle.fields.proofs.Signed.{signed-unsigned, unsigned-signed, unsigned-below}
 
 -- ---- the elements are bytes
 
@@ -80,6 +84,34 @@ at-end a (b ∷ bs) = (
 pub at-self : (bs : List ℕ) → At bs 0 bs
 at-self bs = at-end [] bs
 
+-- what is put at p stands there, and to put what stands there changes nothing
+pub at-put : (b : List ℕ) (p : ℕ) (bs : List ℕ) → p + length bs ≤ length b → At (put b p bs) p bs
+unfolding put
+at-put b p bs h =
+    let r = drop (p + length bs) b in
+    let e : length (take p b) ≡ p = length-take-le p b (omega arith) in
+    subst (λ (l : List ℕ). At l p bs) (sym (append-assoc (take p b) bs r))
+    (subst (λ (k : ℕ). At (take p b ++ (bs ++ r)) k bs) e (at-left (take p b ++ (bs ++ r)) (length (take p b)) bs r (at-end (take p b) (bs ++ r))))
+
+at-drop : (s : List ℕ) (p : ℕ) (bs : List ℕ) → At s p bs → drop p s ≡ bs ++ drop (p + length bs) s
+at-drop s p [] h = ap (λ (k : ℕ). drop k s) (sym (add-zero p))
+at-drop s p (b ∷ bs) h =
+    let i = at-inside s (p + 1) bs (h .1) in
+    let z : suc p ≡ p + 1 = omega arith in
+    let y : p + 1 + length bs ≡ p + suc (length bs) = omega arith in
+    drop-cons s p 0 (omega arith)
+    ∙ ap (λ (x : ℕ). x ∷ drop (suc p) s) (h .0)
+    ∙ ap (λ (k : ℕ). b ∷ drop k s) z
+    ∙ ap (λ (l : List ℕ). b ∷ l) (at-drop s (p + 1) bs (h .1))
+    ∙ ap (λ (k : ℕ). b ∷ (bs ++ drop k s)) y
+
+pub put-at : (s : List ℕ) (p : ℕ) (bs : List ℕ) → At s p bs → put s p bs ≡ s
+unfolding put
+put-at s p bs h =
+    append-assoc (take p s) bs (drop (p + length bs) s)
+    ∙ ap (λ (l : List ℕ). take p s ++ l) (sym (at-drop s p bs h))
+    ∙ take-append-drop p s
+
 -- ---- a number that was put is read, and one that was read was put
 
 pub spell-read : (w x : ℕ) (s : List ℕ) (p : ℕ) → x < 256 ^ w → At s p (spell w x) → be w s p ≡ x
@@ -103,6 +135,25 @@ read-spell (suc w) s p f i =
     let l = spell-length w (u / 256) in
     at-both s p (spell w (u / 256)) (u % 256 ∷ []) (subst (λ (k : ℕ). At s p (spell w k)) d (read-spell w s p f (omega arith)))
     (subst (λ (k : ℕ). At s (p + k) (u % 256 ∷ [])) (sym l) (m, omega arith))
+
+pub signed-read : (z : ℤ) (s : List ℕ) (p : ℕ) → SFits w32 z → At s p (spell 4 (unsigned z)) → signed (be 4 s p) ≡ z
+signed-read z s p f a = ap signed (spell-read 4 (unsigned z) s p (unsigned-below z f) a) ∙ signed-unsigned z f
+
+pub read-signed : (s : List ℕ) (p : ℕ) → Bytes s → p + 4 ≤ length s → At s p (spell 4 (unsigned (signed (be 4 s p))))
+read-signed s p f i = subst (λ (u : ℕ). At s p (spell 4 u)) (sym (unsigned-signed (be 4 s p) (be-below 4 s p f))) (read-spell 4 s p f i)
+
+-- the same of the buffer that it was put into
+pub put-read : (w x : ℕ) (b : List ℕ) (p : ℕ) → x < 256 ^ w → p + w ≤ length b → be w (put b p (spell w x)) p ≡ x
+put-read w x b p h i = spell-read w x (put b p (spell w x)) p h (at-put b p (spell w x) (omega (arith, spell-length w x)))
+
+pub read-put : (w : ℕ) (s : List ℕ) (p : ℕ) → Bytes s → p + w ≤ length s → put s p (spell w (be w s p)) ≡ s
+read-put w s p f i = put-at s p (spell w (be w s p)) (read-spell w s p f i)
+
+pub put-read-signed : (z : ℤ) (b : List ℕ) (p : ℕ) → SFits w32 z → p + 4 ≤ length b → signed (be 4 (put b p (spell 4 (unsigned z))) p) ≡ z
+put-read-signed z b p f i = signed-read z (put b p (spell 4 (unsigned z))) p f (at-put b p (spell 4 (unsigned z)) (omega (arith, spell-length 4 (unsigned z))))
+
+pub read-put-signed : (s : List ℕ) (p : ℕ) → Bytes s → p + 4 ≤ length s → put s p (spell 4 (unsigned (signed (be 4 s p)))) ≡ s
+read-put-signed s p f i = put-at s p (spell 4 (unsigned (signed (be 4 s p)))) (read-signed s p f i)
 
 -- a field whose bytes are there is read
 pub field-at : {B : Type 0} (w n : ℕ) (rule : ℕ → Bool) (s : List ℕ) (p : ℕ) (k : ℕ → ℕ → Got B) (x : ℕ) {g : Got B} → x < 256 ^ w → At s p (spell w x) → rule x ≡ true

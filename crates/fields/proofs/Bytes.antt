@@ -1,13 +1,13 @@
 -- Numbers as bytes: put then read, read then put, by one law each over the width.
 -- Rests on the definitions of `be`, `spell` and `put`.
-use mathlib.Core.Path.{_≡_, refl, ap, sym, _∙_, subst}
+use mathlib.Core.Path.{_≡_, refl, ap, sym, _∙_}
 use mathlib.Core.List.{List, [], _∷_, _++_, append-assoc, append-nil}
-use Prim.Native.Nat.{ℕ, zero, suc, _+_, _*_, _-_, _/_, _%_, _^_, _≤_, _<_}
+use Prim.Native.Nat.{ℕ, zero, suc, _+_, _*_, _/_, _%_, _^_, _≤_, _<_}
 use native.Mathlib.Omega.{arith}
 use native.Mathlib.Numerals.{add-one}
 use native.Mathlib.Nat.{add-zero, zero-add, pow-suc}
-use lib.ListN.{length, getD, set, take, drop, length-append, take-append-drop, List·getD-append}
-use lib.Seq.{sets-eq, take-at, drop-append-add, drop-drop, length-take-le, getD-append-add, getD-append-seam, take-add, take-suc, getD-drop}
+use lib.ListN.{length, getD, set, take, drop, length-append, take-append-drop}
+use lib.Seq.{sets-eq, take-at, drop-append-add, drop-drop, length-take-le}
 use lib.Dec.{lit<}
 use lib.IntN.{ℤ}
 use mir.Syntax.{w8, w32}

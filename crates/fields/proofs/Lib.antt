@@ -1,8 +1,8 @@
 pub mod Tests
+pub mod Bytes
 pub mod Reading
 pub mod Loops
 pub mod Back
 pub mod Signed
-pub mod Bytes
 pub mod At
 pub mod Refusals

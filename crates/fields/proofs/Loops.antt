@@ -1,7 +1,7 @@
 -- The loop over `many`: what is left to read from here equals the whole; one law for each way a turn can end.
 -- Rests on the definition of `many` alone.
 use mathlib.Core.Path.{_≡_, refl, sym, _∙_}
-use mathlib.Core.List.{List, [], _∷_}
+use mathlib.Core.List.{_∷_}
 use Prim.Native.Nat.{ℕ, zero, suc, _-_, _≤_, _<_}
 use native.Mathlib.Omega.{arith}
 use Rattle.fields.specs.Reading.{Got, got, bad, part, many}

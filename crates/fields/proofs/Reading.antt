@@ -1,13 +1,12 @@
 -- One law for each way that a field or a part can end, in the shape of what a reader's return asks; `reading` gathers them.
 -- Rests on the definitions of `part`, `whole` and `field` alone.
 use mathlib.Core.Path.{_≡_, refl, ap, sym, _∙_}
-use mathlib.Core.Bool.{Bool, true, false, cond}
+use mathlib.Core.Bool.{Bool, true, false}
 use mathlib.Core.List.{List}
 use Prim.Native.Nat.{ℕ, _+_, _*_, _≤_, _<_}
 use native.Mathlib.Omega.{arith}
-use native.Mathlib.Nat.{zero-add}
 use borrow.Author.Tests.{le-leb, lt-leb, le-ltb, lt-ltb, eq-eqb, ne-eqb}
-use lib.Dec.{ltb, eqb}
+use lib.Dec.{eqb}
 use lib.IntN.{ℤ}
 use lib.ListN.{length, getD}
 use Rattle.fields.specs.Reading.{Got, got, bad, part, be, whole, field, mark, ended, signed}
@@ -19,6 +18,7 @@ use Rattle.fields.specs.declared.SignedField.the-variants.{Signed, NoSig
 use Rattle.fields.specs.declared.Step.{Step}
 use Rattle.fields.specs.declared.Step.the-variants.{Next, Bad}
 use Rattle.fields.proofs.Tests.{tests}
+use Rattle.fields.proofs.Bytes.{be2}
 
 -- w bytes, from the code's test of the length
 module _ (w : ℕ) (s : List ℕ) (p : ℕ) where
@@ -44,6 +44,20 @@ took (bad n o) e h = cc
 pub cut : (g : Got ℕ) {f : Field} {n o : ℕ} → f ≡ fieldOf g → f ≡ Cut n o → g ≡ bad n o
 cut (got a p) e h = cc
 cut (bad n o) e h = cc
+
+-- a signed field's value is read from bits
+pub record Told (g : Got ℕ) (z : ℤ) (q : ℕ) : Type 0 where
+  pub u : ℕ
+  pub read : g ≡ got u q
+  pub is : z ≡ signed u
+
+pub told : (g : Got ℕ) {f : SignedField} {z : ℤ} {q : ℕ} → f ≡ signedOf g → f ≡ Signed z q → Told g z q
+told (got u p) e h = record { u = u; read = cc; is = cc }
+told (bad n o) e h = absurd (let z : _≡_ {A = ℕ} 0 1 = cc in omega arith)
+
+pub untold : (g : Got ℕ) {f : SignedField} {n o : ℕ} → f ≡ signedOf g → f ≡ NoSigned n o → g ≡ bad n o
+untold (got a p) e h = cc
+untold (bad n o) e h = cc
 
 pub stepped : {A : Type 0} (g : Got A) {f : Step} {q : ℕ} → f ≡ stepOf g → f ≡ Next q → (a : A) × (g ≡ got a q)
 stepped (got a p) e h = (a, (cc))
@@ -118,18 +132,14 @@ module _ {B : Type 0} (m s : List ℕ) (p : ℕ) (k : ℕ → ℕ → Got B) {f 
   mark-ok e h z = let w = stepped (mark m s p) e h in rw (w .1) (z (w .0))
 
 -- the two letters are compared as one number
-letters : (m : List ℕ) → be 2 m 0 ≡ getD m 0 0 * 256 + getD m 1 0
-unfolding be
-letters m = simp zero-add
-
 module _ (m s : List ℕ) (p : ℕ) {f : Field} where
   pub mark-yes : {v q j : ℕ} → f ≡ fieldOf (whole 2 s p) → f ≡ Value v q → j ≡ getD m 0 0 * 256 + getD m 1 0 → v ≡ j → Next q ≡ stepOf (mark m s p)
   unfolding mark
-  mark-yes {v} {q} e h j z = step-ok 2 1 (λ v. eqb v (be 2 m 0)) s p got e h (eq-eqb v (be 2 m 0) (z ∙ j ∙ sym (letters m))) refl
+  mark-yes {v} {q} e h j z = step-ok 2 1 (λ v. eqb v (be 2 m 0)) s p got e h (eq-eqb v (be 2 m 0) (z ∙ j ∙ sym (be2 m 0))) refl
 
   pub mark-no : {v q j : ℕ} → f ≡ fieldOf (whole 2 s p) → f ≡ Value v q → j ≡ getD m 0 0 * 256 + getD m 1 0 → (v ≡ j → ⊥) → Bad 1 p ≡ stepOf (mark m s p)
   unfolding mark
-  mark-no {v} {q} e h j z = step-bad 2 1 (λ v. eqb v (be 2 m 0)) s p got e h (ne-eqb v (be 2 m 0) (λ w. z (w ∙ letters m ∙ sym j)))
+  mark-no {v} {q} e h j z = step-bad 2 1 (λ v. eqb v (be 2 m 0)) s p got e h (ne-eqb v (be 2 m 0) (λ w. z (w ∙ be2 m 0 ∙ sym j)))
 
 -- a signed field
 pub signed-is : (g : Got ℕ) {f : Field} {v q : ℕ} {z : ℤ} → f ≡ fieldOf g → f ≡ Value v q → z ≡ signed v → Signed z q ≡ signedOf g

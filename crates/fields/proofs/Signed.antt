@@ -1,16 +1,18 @@
 -- Two's complement at 32 bits: below 2^31 a number is itself, from there on it is counted down from -1.
 -- Rests on the library's `toZ` and `ofZ`.
-use mathlib.Core.Path.{_≡_, refl, ap, sym, _∙_}
+use mathlib.Core.Path.{_≡_, refl, ap, _∙_}
 use mathlib.Core.Bool.{true, false}
-use Prim.Native.Nat.{ℕ, zero, suc, _+_, _-_, _^_, _≤_, _<_}
+use Prim.Native.Nat.{ℕ, zero, suc, _-_, _^_, _≤_, _<_}
 use native.Mathlib.Omega.{arith}
-use native.Mathlib.Nat.{zero-add, not-suc-le-zero}
+use native.Mathlib.Nat.{not-suc-le-zero}
 use borrow.Author.Tests.{ltb-true, le-ltb}
 use lib.IntN.{ℤ, pos, negsuc, _-ℤ_}
 use lib.Signed.{ltZ, mag}
 use mir.Syntax.{w32}
-use mir.Val.{toZ, ofZ, Fits, SFits}
-use mir.ValLaws.{toZ-pos, toZ-ofZ, ofZ-toZ, toZ-fits}
+use mir.Val.{toZ, ofZ, SFits}
+use mir.ValLaws.{toZ-pos, toZ-ofZ, ofZ-toZ, ofZ-fits}
+use Rattle.fields.specs.Reading.{signed}
+use Rattle.fields.specs.Writing.{unsigned}
 
 -- -1 - n, and -1 - z of a negative z
 pub down : (n : ℕ) → negsuc 0 -ℤ pos n ≡ negsuc n
@@ -58,3 +60,13 @@ pos-fits n h = record { sfits = h }
 -- a signed result of a call, as the caller returns it
 pub signed-again : {z : ℤ} {u v : ℕ} → z ≡ toZ w32 u → u ≡ v → mag z < 2 ^ 31 → toZ w32 (ofZ w32 z) ≡ toZ w32 v
 signed-again {z} e h f = toZ-ofZ w32 z (record { sfits = f }) ∙ e ∙ ap (toZ w32) h
+
+-- a signed number is its 32 bits read as two's complement, and 32 bits are those of the number that they are read as
+pub signed-unsigned : (z : ℤ) → SFits w32 z → signed (unsigned z) ≡ z
+signed-unsigned z f = toZ-ofZ w32 z f
+
+pub unsigned-signed : (u : ℕ) → u < 256 ^ 4 → unsigned (signed u) ≡ u
+unsigned-signed u h = ofZ-toZ w32 u (record { fits = h })
+
+pub unsigned-below : (z : ℤ) → SFits w32 z → unsigned z < 256 ^ 4
+unsigned-below z f = ofZ-fits w32 z f .fits

@@ -26,7 +26,7 @@ stepOf (bad n o) = Bad n o
 abbrev pub success : ℕ → Answer
 success v = record { number = 0; file = 0; offset = 0; value = v }
 
--- 'after a refusal its other parts are 0'
+-- 'after a refusal its other parts, the length among them, are 0 or no'
 abbrev pub refusal : ℕ → ℕ → ℕ → Answer
 refusal n file o = record { number = n; file = file; offset = o; value = 0 }
 

@@ -1,7 +1,7 @@
 -- A file's fields, taken in turn (01, 'Where a number arises').
 use Prim.Native.Nat.{ℕ, zero, suc, _+_, _*_}
 use mathlib.Core.List.{List, [], _∷_}
-use mathlib.Core.Bool.{Bool, true, false, cond}
+use mathlib.Core.Bool.{Bool, cond}
 use lib.ListN.{length, getD}
 use lib.Dec.{leb, ltb, eqb}
 use lib.IntN.{ℤ}

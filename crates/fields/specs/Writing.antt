@@ -1,5 +1,6 @@
 -- Numbers and marks put into a buffer.
 use Prim.Native.Nat.{ℕ, zero, suc, _+_, _/_, _%_}
+use mathlib.Core.Path.{_≡_}
 use mathlib.Core.List.{List, [], _∷_, _++_}
 use lib.ListN.{length, getD, take, drop}
 use lib.IntN.{ℤ}
@@ -22,3 +23,8 @@ letters m = getD m 0 0 ∷ getD m 1 0 ∷ []
 -- b with bs put at a place
 unfoldable pub put : List ℕ → ℕ → List ℕ → List ℕ
 put b at bs = take at b ++ bs ++ drop (at + length bs) b
+
+-- after is b with bs put at a place, and r the place after them
+pub record Wrote (b : List ℕ) (at : ℕ) (bs after : List ℕ) (r : ℕ) : Type 0 where
+  pub holds : after ≡ put b at bs
+  pub next : r ≡ at + length bs

@@ -1,7 +1,7 @@
 // Fields of the three files: taken in turn by the readers, put in turn by the writers.
 ghost use mathlib.Core.Path.{_≡_};
-ghost use Prim.Native.Nat.{ℕ, _+_, _*_, _≤_, _<_};
-ghost use lib.ListN.{length, getD};
+ghost use Prim.Native.Nat.{_+_, _*_, _≤_, _<_};
+ghost use lib.ListN.{length};
 ghost use Rattle.fields.specs.Reading.{be, whole, mark, signed};
 ghost use Rattle.fields.specs.Writing.{spell, unsigned, letters, put};
 ghost use Rattle.fields.specs.Answers.{fieldOf, signedOf, stepOf};

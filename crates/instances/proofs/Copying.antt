@@ -1,17 +1,14 @@
 -- The copying call: an accepted file is the encoding of what was read, so its copy is a copy of the bytes.
 -- Rests on `read-encode` of RoundTrip.antt.
-use mathlib.Core.Path.{_≡_, refl, ap, sym, _∙_}
-use mathlib.Core.Bool.{Bool, true, false, cond}
+use mathlib.Core.Path.{_≡_, ap, sym, _∙_}
 use mathlib.Core.List.{List, _++_}
 use Prim.Native.Nat.{ℕ, _≤_, _<_}
 use native.Mathlib.Omega.{arith}
 use borrow.Author.Tests.{le-leb, lt-leb}
-use lib.Dec.{leb}
 use lib.ListN.{length, take, drop}
 use lib.Seq.{length-take-le, take-length}
-use Rattle.fields.specs.Reading.{Got, got, bad}
 use Rattle.fields.specs.Answers.{stepOf, success, refusal}
-use Rattle.fields.specs.Outcomes.{Outcome, Did, judgedIn, placed}
+use Rattle.fields.specs.Outcomes.{Did, judgedIn, placed}
 use Rattle.fields.specs.declared.Answer.{Answer}
 use Rattle.fields.specs.declared.Step.{Step}
 use Rattle.fields.specs.declared.Step.the-variants.{Next, Bad}
@@ -19,7 +16,6 @@ use Rattle.fields.proofs.Bytes.{Bytes}
 use Rattle.fields.proofs.Reading.{stepped, stopped}
 use Rattle.schema.specs.Schema.{Node, schema, schemaOf}
 use Rattle.schema.proofs.Accepted.{schema-got}
-use Rattle.instances.specs.Instance.{Entry}
 use Rattle.instances.specs.File.{instance, encode}
 use Rattle.instances.specs.Copying.{copyingUnder, copying}
 use Rattle.instances.proofs.RoundTrip.{read-encode}

@@ -17,9 +17,9 @@ use Rattle.numbers.proofs.Bits.{pow-bit, no-bit, turned-bit, all-bit, tz-bit, t
 use Rattle.schema.specs.Schema.{Node, nodeAt}
 use Rattle.schema.proofs.Sound.{Sound}
 use Rattle.instances.specs.Instance.{Entry, elem, reaches, rightChoice, has}
-use Rattle.instances.specs.File.{led, due, noneBelow, lowestDue, entry}
+use Rattle.instances.specs.File.{reached, due, noneBelow, lowestDue, entry}
 use Rattle.instances.specs.Reader.{entryWhere, dueAfter, Within}
-use Rattle.instances.proofs.Valid.{none-at, at-none, Reaches, led-due, due-led, due-not, due-cases, lowest-due, Above, above-none, above-more, reaches-in}
+use Rattle.instances.proofs.Valid.{none-at, at-none, Reaches, reached-due, due-reached, due-not, due-cases, lowest-due, Above, above-none, above-more, reaches-in}
 
 -- ---- a list of nodes, as bits
 
@@ -67,7 +67,7 @@ pub record Held (g : List Node) (es : List Entry) (m : ℕ) : Type 0 where
   pub inside : (n : ℕ) → due g es n ≡ true → n < length g
 
 pub held-none : (g : List Node) → 0 < length g → Held g [] 1
-unfolding due led has
+unfolding due reached has
 held-none g h =
     record {
       bits = λ n. pow-bit 0 n ∙ right (eqb n 0);
@@ -79,14 +79,14 @@ held-none g h =
     right true = refl
     right false = refl
 
-due-make : (g : List Node) (es : List Entry) (e : Entry) (k : ℕ) → Reaches g e k ⊎ (led g es k ≡ true) → (k ≡ e .node → ⊥) → (has es k ≡ true → ⊥)
+due-make : (g : List Node) (es : List Entry) (e : Entry) (k : ℕ) → Reaches g e k ⊎ (reached g es k ≡ true) → (k ≡ e .node → ⊥) → (has es k ≡ true → ⊥)
     → due g (e ∷ es) k ≡ true
-unfolding led has
-due-make g es e k h a b = led-due g (e ∷ es) k (go h) (λ t. free (or-true (eqb (e .node) k) (has es k) t))
+unfolding reached has
+due-make g es e k h a b = reached-due g (e ∷ es) k (go h) (λ t. free (or-true (eqb (e .node) k) (has es k) t))
   where
-    go : Reaches g e k ⊎ (led g es k ≡ true) → elem k (reaches (nodeAt g (e .node)) (e .choice)) || led g es k ≡ true
-    go (inl t) = or-left (elem k (reaches (nodeAt g (e .node)) (e .choice))) (led g es k) t
-    go (inr t) = or-right (elem k (reaches (nodeAt g (e .node)) (e .choice))) (led g es k) t
+    go : Reaches g e k ⊎ (reached g es k ≡ true) → elem k (reaches (nodeAt g (e .node)) (e .choice)) || reached g es k ≡ true
+    go (inl t) = or-left (elem k (reaches (nodeAt g (e .node)) (e .choice))) (reached g es k) t
+    go (inr t) = or-right (elem k (reaches (nodeAt g (e .node)) (e .choice))) (reached g es k) t
 
     free : (eqb (e .node) k ≡ true) ⊎ (has es k ≡ true) → ⊥
     free (inl t) = a (sym (eqb-true (e .node) k t))
@@ -123,7 +123,7 @@ module _ (g : List Node) (sound : Sound g) (es : List Entry) (e : Entry) (m : �
           by true q u = absurd (not-yes (bit m k) u (h .bits k ∙ ap (due g es) (eqb-true k n q) ∙ d))
           by false q u =
               let w = sym (h .bits k) ∙ u in
-              due-make g es e k (inr (due-led g es k w)) (λ z. never (sym q ∙ eq-eqb k n z)) (due-not g es k w)
+              due-make g es e k (inr (due-reached g es k w)) (λ z. never (sym q ∙ eq-eqb k n z)) (due-not g es k w)
 
           go : (cond (eqb k n) (not (bit m k)) (bit m k) ≡ true) ⊎ (elem k ls ≡ true) → due g (e ∷ es) k ≡ true
           go (inl u) = by (eqb k n) refl u

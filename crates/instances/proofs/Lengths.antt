@@ -14,13 +14,21 @@ use Rattle.schema.specs.declared.Variable.{Variable}
 use Rattle.schema.specs.declared.Variable.the-variants.{Number, Listed}
 use Rattle.schema.proofs.Sound.{Sound}
 use Rattle.instances.specs.Instance.{Entry}
-use Rattle.instances.specs.File.{IH, IN, encodeValue, encodeValues, encodeEntry, encodeEntries, encode}
+use Rattle.instances.specs.File.{IH, IN, valueWidth, encodeValue, encodeValues, encodeEntry, encodeEntries, encode}
 use Rattle.instances.proofs.Valid.{few-variables}
 
+pub width-most : (v : Variable) → valueWidth v ≤ 4
+unfolding valueWidth
+width-most (Number lo hi) = omega arith
+width-most (Listed size) = omega arith
+
+pub value-width : (v : Variable) (x : ℤ) → length (encodeValue v x) ≡ valueWidth v
+unfolding encodeValue valueWidth
+value-width (Number lo hi) x = spell-length 4 (unsigned x)
+value-width (Listed size) x = spell-length 1 (mag x)
+
 pub value-length : (v : Variable) (x : ℤ) → length (encodeValue v x) ≤ 4
-unfolding encodeValue
-value-length (Number lo hi) x = omega (arith, spell-length 4 (unsigned x))
-value-length (Listed size) x = omega (arith, spell-length 1 (mag x))
+value-length v x = omega (arith, value-width v x, width-most v)
 
 values-length : (vs : List Variable) (xs : List ℤ) → length (encodeValues vs xs) ≤ 4 * length vs
 unfolding encodeValues

@@ -1,3 +1,4 @@
+pub mod IsInstance
 pub mod Valid
 pub mod Lengths
 pub mod Planned

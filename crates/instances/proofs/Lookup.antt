@@ -9,13 +9,12 @@ use native.Mathlib.Nat.{zero-add}
 use borrow.Author.Tests.{eq-eqb}
 use lib.Dec.{eqb}
 use lib.IntN.{ℤ}
-use lib.Signed.{mag}
 use lib.ListN.{length, getD, set, drop, replicate, drop-of-length-le, length-append, length-set, length-replicate, getD-replicate}
 use lib.Seq.{getD-set-same, getD-set-other}
 use mir.Val.{Fits}
 use mir.Syntax.{w64}
 use Rattle.fields.specs.Reading.{got}
-use Rattle.fields.specs.Writing.{spell, unsigned}
+use Rattle.fields.specs.Writing.{spell}
 use Rattle.fields.specs.Answers.{stepOf}
 use Rattle.fields.specs.declared.Step.{Step}
 use Rattle.fields.specs.declared.Step.the-variants.{Next}
@@ -24,16 +23,17 @@ use Rattle.fields.proofs.Back.{be1}
 use Rattle.fields.proofs.Bytes.{Bytes, spell-length}
 use Rattle.fields.proofs.Reading.{stepped}
 use Rattle.schema.specs.Schema.{Node, schemaOf, nodeAt, noVariable}
-use Rattle.schema.specs.Table.{tableOf, Accepted, NodeIn, AtMost}
+use Rattle.schema.specs.Table.{Tabled, Accepted, NodeIn, AtMost}
 use Rattle.schema.specs.declared.Variable.{Variable}
 use Rattle.schema.specs.declared.Variable.the-variants.{Number, Listed}
 use Rattle.schema.proofs.Accepted.{sound}
-use Rattle.instances.specs.Instance.{Entry, inDomain, inDomains, has, RightEntry, Ascending, IsInstance}
+use Rattle.instances.specs.Instance.{Entry, inDomain, has}
 use Rattle.instances.specs.File.{IH, IN, valueWidth, instance, encodeValue, encodeValues, encodeEntry, encodeEntries}
 use Rattle.instances.specs.Lookup.{entriesIn, instanceOf, Readable, valuesWidth, fillChoices, choicesOf}
+use Rattle.instances.proofs.IsInstance.{inDomains, RightEntry, Ascending, IsInstance}
 use Rattle.fields.proofs.At.{At, at-parts, at-inside, at-self, spell-read}
 use Rattle.instances.proofs.Valid.{has-mem}
-use Rattle.instances.proofs.Lengths.{entry-length}
+use Rattle.instances.proofs.Lengths.{width-most, value-width, entry-length}
 use Rattle.instances.proofs.Trip.{Small, encode-nest, entry-nest}
 use Rattle.instances.proofs.RoundTrip.{read-is, read-encode, node-below, small, few-entries}
 use Rattle.instances.proofs.Reader.{vars-more}
@@ -54,11 +54,6 @@ width-number v e = rw e
 pub width-listed : (v : Variable) {size : ℕ} → v ≡ Listed size → 1 ≡ valueWidth v
 unfolding valueWidth
 width-listed v e = rw e
-
-width-most : (v : Variable) → valueWidth v ≤ 4
-unfolding valueWidth
-width-most (Number lo hi) = omega arith
-width-most (Listed size) = omega arith
 
 pub record Summed (x : Node) (k r : ℕ) : Type 0 where
   pub most : r ≤ 4 * k
@@ -81,11 +76,6 @@ module _ (x : Node) (k r : ℕ) {c : ℕ} (w : Summed x k r) (l : AtMost 4 (leng
       record { is = omega (arith, w .rest, ap valuesWidth (drop-of-length-le (x .variables) {i = k} (omega (arith, l .is)))); most = omega (arith, w .most, l .most) }
 
 -- values in their domains take as many bytes as their variables say
-value-width : (v : Variable) (x : ℤ) → length (encodeValue v x) ≡ valueWidth v
-unfolding encodeValue valueWidth
-value-width (Number lo hi) x = spell-length 4 (unsigned x)
-value-width (Listed size) x = spell-length 1 (mag x)
-
 values-width : (vs : List Variable) (xs : List ℤ) → inDomains vs xs ≡ true → length (encodeValues vs xs) ≡ valuesWidth vs
 unfolding encodeValues inDomains valuesWidth
 values-width [] [] t = refl
@@ -223,7 +213,7 @@ module _ (f s : List ℕ) (left at : ℕ) (table : List ℕ) (w : Looking (schem
   pub look-wide : Accepted f → Bytes f → Fits w64 (getD s (at + 2) 0)
   look-wide a b = let z = look-low a b in record { fits = omega arith }
 
-  pub look-node : (t : List ℕ) → t ≡ tableOf (schemaOf f) → NodeIn f t (getD s (at + 2) 0)
+  pub look-node : (t : List ℕ) → Tabled f t → NodeIn f t (getD s (at + 2) 0)
   look-node t e = record { table = e; below = this .low }
 
   pub look-again : {k : ℕ} → AtMost 16 (valuesWidth (nodeAt (schemaOf f) (getD s (at + 2) 0) .variables)) k

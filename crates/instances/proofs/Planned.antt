@@ -13,17 +13,18 @@ use lib.ListN.{length}
 use Rattle.fields.proofs.Tests.{or-true, never}
 use Rattle.schema.specs.Schema.{Node, nodeAt}
 use Rattle.schema.proofs.Sound.{Sound}
-use Rattle.instances.specs.Instance.{Entry, elem, reaches, rightChoice, inDomains, has, Reached, root, on, RightEntry, IsInstance}
-use Rattle.instances.specs.File.{led, due, lowestDue, encode}
+use Rattle.instances.specs.Instance.{Entry, elem, reaches, rightChoice, has}
+use Rattle.instances.specs.File.{reached, due, lowestDue, encode}
 use Rattle.instances.specs.Plan.{plannedFrom, planned}
+use Rattle.instances.proofs.IsInstance.{inDomains, Reached, root, on, RightEntry, IsInstance}
 use Rattle.instances.proofs.Lengths.{encode-length}
-use Rattle.instances.proofs.Valid.{Follows, none-left, and-then, at-none, Reaches, mem-none, due-led, led-due, due-cases, due-lowest, reaches-in, follows-is}
+use Rattle.instances.proofs.Valid.{Follows, none-left, and-then, at-none, Reaches, mem-none, due-reached, reached-due, due-cases, due-lowest, reaches-in, follows-is}
 
 -- a plan makes at most one entry for each node
 from-few : (g : List Node) (plan : ℕ → Entry) (k n : ℕ) (es : List Entry) → length (plannedFrom g plan k n es) ≤ k
 unfolding plannedFrom
 from-few g plan zero n es = omega arith
-from-few g plan (suc k) n es = go (led g es n) (from-few g plan k (n + 1) (plan n ∷ es)) (from-few g plan k (n + 1) es)
+from-few g plan (suc k) n es = go (reached g es n) (from-few g plan k (n + 1) (plan n ∷ es)) (from-few g plan k (n + 1) es)
   where
     go : (b : Bool) → length (plannedFrom g plan k (n + 1) (plan n ∷ es)) ≤ k → length (plannedFrom g plan k (n + 1) es) ≤ k
         → length (cond b (plan n ∷ plannedFrom g plan k (n + 1) (plan n ∷ es)) (plannedFrom g plan k (n + 1) es)) ≤ suc k
@@ -49,23 +50,23 @@ module _ (g : List Node) (sound : Sound g) (plan : ℕ → Entry) (Good : ℕ �
     low : (j : ℕ) → has es j ≡ true → j < n
     high : (j : ℕ) → due g es j ≡ true → n ≤ j
     inside : (j : ℕ) → due g es j ≡ true → j < length g
-    good : (j : ℕ) → led g es j ≡ true → Good j
+    good : (j : ℕ) → reached g es j ≡ true → Good j
 
-  root-good : (j : ℕ) → led g [] j ≡ true → Good j
-  unfolding led
+  root-good : (j : ℕ) → reached g [] j ≡ true → Good j
+  unfolding reached
   root-good j t = subst Good (sym (eqb-true j 0 t)) (sure .root)
 
   made-none : Made 0 []
-  unfolding has led
+  unfolding has reached
   made-none =
       record {
         low = λ j t. never t;
         high = λ j t. omega arith;
-        inside = λ j t. let z = eqb-true j 0 (due-led g [] j t) in let k = sound .some in omega arith;
+        inside = λ j t. let z = eqb-true j 0 (due-reached g [] j t) in let k = sound .some in omega arith;
         good = root-good;
       }
 
-  made-skip : (n : ℕ) (es : List Entry) → Made n es → led g es n ≡ false → Made (n + 1) es
+  made-skip : (n : ℕ) (es : List Entry) → Made n es → reached g es n ≡ false → Made (n + 1) es
   made-skip n es m f =
       record {
         low = λ j t. let z = m .low j t in omega arith;
@@ -75,10 +76,10 @@ module _ (g : List Node) (sound : Sound g) (plan : ℕ → Entry) (Good : ℕ �
       }
     where
       apart : (j : ℕ) → due g es j ≡ true → n ≡ j → ⊥
-      apart j t e = never (sym f ∙ ap (led g es) e ∙ due-led g es j t)
+      apart j t e = never (sym f ∙ ap (reached g es) e ∙ due-reached g es j t)
 
-  is-lowest : (n : ℕ) (es : List Entry) → Made n es → led g es n ≡ true → lowestDue g es n ≡ true
-  is-lowest n es m t = due-lowest g es n (led-due g es n t (λ h. let z = m .low n h in omega arith)) (m .high)
+  is-lowest : (n : ℕ) (es : List Entry) → Made n es → reached g es n ≡ true → lowestDue g es n ≡ true
+  is-lowest n es m t = due-lowest g es n (reached-due g es n t (λ h. let z = m .low n h in omega arith)) (m .high)
 
   right-at : (n : ℕ) → Good n → RightEntry g (plan n)
   right-at n h =
@@ -92,13 +93,13 @@ module _ (g : List Node) (sound : Sound g) (plan : ℕ → Entry) (Good : ℕ �
   on-at n s h t = sure .on n s h (subst (λ (k : ℕ). elem s (reaches (nodeAt g k) (plan n .choice)) ≡ true) (sure .own n) t)
 
   made-take : (n : ℕ) (es : List Entry) → Made n es → Good n → Made (n + 1) (plan n ∷ es)
-  unfolding has led
+  unfolding has reached
   made-take n es m h =
       record {
         low = λ j t. low j (or-true (eqb (plan n .node) j) (has es j) t);
         high = λ j t. high j (due-cases g es (plan n) j t);
         inside = λ j t. inside j (due-cases g es (plan n) j t);
-        good = λ j t. good j (or-true (elem j (reaches (nodeAt g (plan n .node)) (plan n .choice))) (led g es j) t);
+        good = λ j t. good j (or-true (elem j (reaches (nodeAt g (plan n .node)) (plan n .choice))) (reached g es j) t);
       }
     where
       low : (j : ℕ) → (eqb (plan n .node) j ≡ true) ⊎ (has es j ≡ true) → j < n + 1
@@ -118,7 +119,7 @@ module _ (g : List Node) (sound : Sound g) (plan : ℕ → Entry) (Good : ℕ �
       inside j (inl w) = m .inside j (w .0)
       inside j (inr w) = reach j w .1
 
-      good : (j : ℕ) → Reaches g (plan n) j ⊎ (led g es j ≡ true) → Good j
+      good : (j : ℕ) → Reaches g (plan n) j ⊎ (reached g es j ≡ true) → Good j
       good j (inl t) = on-at n j h t
       good j (inr t) = m .good j t
 
@@ -126,9 +127,9 @@ module _ (g : List Node) (sound : Sound g) (plan : ℕ → Entry) (Good : ℕ �
   unfolding plannedFrom
   from-follows zero n es e m = none-left (at-none (due g es) (length g) (λ j h d. let z = m .high j d in omega arith))
   from-follows (suc k) n es e m =
-      go (led g es n) refl (λ t. from-follows k (n + 1) (plan n ∷ es) (omega arith) (made-take n es m (m .good n t))) (λ t. from-follows k (n + 1) es (omega arith) (made-skip n es m t))
+      go (reached g es n) refl (λ t. from-follows k (n + 1) (plan n ∷ es) (omega arith) (made-take n es m (m .good n t))) (λ t. from-follows k (n + 1) es (omega arith) (made-skip n es m t))
     where
-      go : (b : Bool) → led g es n ≡ b → (led g es n ≡ true → Follows g (plan n ∷ es) (plannedFrom g plan k (n + 1) (plan n ∷ es))) → (led g es n ≡ false → Follows g es (plannedFrom g plan k (n + 1) es))
+      go : (b : Bool) → reached g es n ≡ b → (reached g es n ≡ true → Follows g (plan n ∷ es) (plannedFrom g plan k (n + 1) (plan n ∷ es))) → (reached g es n ≡ false → Follows g es (plannedFrom g plan k (n + 1) es))
           → Follows g es (cond b (plan n ∷ plannedFrom g plan k (n + 1) (plan n ∷ es)) (plannedFrom g plan k (n + 1) es))
       go true t f h =
           and-then (plan n) (subst (λ (j : ℕ). lowestDue g es j ≡ true) (sym (sure .own n)) (is-lowest n es m t)) (right-at n (m .good n t)) (f t)
@@ -142,7 +143,7 @@ module _ (g : List Node) (sound : Sound g) (plan : ℕ → Entry) (Good : ℕ �
   from-mem : (k n : ℕ) (es : List Entry) (e : Entry) → List·Memᴰ e (plannedFrom g plan k n es) → e ≡ plan (e .node)
   unfolding plannedFrom
   from-mem zero n es e m = mem-none m
-  from-mem (suc k) n es e m = go (led g es n) (from-mem k (n + 1) (plan n ∷ es) e) (from-mem k (n + 1) es e) m
+  from-mem (suc k) n es e m = go (reached g es n) (from-mem k (n + 1) (plan n ∷ es) e) (from-mem k (n + 1) es e) m
     where
       go : (b : Bool) → (List·Memᴰ e (plannedFrom g plan k (n + 1) (plan n ∷ es)) → e ≡ plan (e .node)) → (List·Memᴰ e (plannedFrom g plan k (n + 1) es) → e ≡ plan (e .node))
           → List·Memᴰ e (cond b (plan n ∷ plannedFrom g plan k (n + 1) (plan n ∷ es)) (plannedFrom g plan k (n + 1) es)) → e ≡ plan (e .node)
@@ -165,16 +166,16 @@ module _ (g : List Node) (sound : Sound g) (plan : ℕ → Entry) (Good : ℕ �
 
   -- a plan that is the same where it is good makes the same
   module _ (other : ℕ → Entry) (same : (n : ℕ) → Good n → plan n ≡ other n) where
-    from-same : (k n : ℕ) (es : List Entry) → ((j : ℕ) → led g es j ≡ true → Good j) → plannedFrom g plan k n es ≡ plannedFrom g other k n es
-    unfolding plannedFrom led
+    from-same : (k n : ℕ) (es : List Entry) → ((j : ℕ) → reached g es j ≡ true → Good j) → plannedFrom g plan k n es ≡ plannedFrom g other k n es
+    unfolding plannedFrom reached
     from-same zero n es f = refl
-    from-same (suc k) n es f = go (led g es n) refl (λ h. from-same k (n + 1) (plan n ∷ es) (λ j t. more h j (or-true (elem j (reaches (nodeAt g (plan n .node)) (plan n .choice))) (led g es j) t))) (from-same k (n + 1) es f)
+    from-same (suc k) n es f = go (reached g es n) refl (λ h. from-same k (n + 1) (plan n ∷ es) (λ j t. more h j (or-true (elem j (reaches (nodeAt g (plan n .node)) (plan n .choice))) (reached g es j) t))) (from-same k (n + 1) es f)
       where
-        more : Good n → (j : ℕ) → Reaches g (plan n) j ⊎ (led g es j ≡ true) → Good j
+        more : Good n → (j : ℕ) → Reaches g (plan n) j ⊎ (reached g es j ≡ true) → Good j
         more h j (inl t) = on-at n j h t
         more h j (inr t) = f j t
 
-        go : (b : Bool) → led g es n ≡ b → (Good n → plannedFrom g plan k (n + 1) (plan n ∷ es) ≡ plannedFrom g other k (n + 1) (plan n ∷ es)) → plannedFrom g plan k (n + 1) es ≡ plannedFrom g other k (n + 1) es
+        go : (b : Bool) → reached g es n ≡ b → (Good n → plannedFrom g plan k (n + 1) (plan n ∷ es) ≡ plannedFrom g other k (n + 1) (plan n ∷ es)) → plannedFrom g plan k (n + 1) es ≡ plannedFrom g other k (n + 1) es
             → cond b (plan n ∷ plannedFrom g plan k (n + 1) (plan n ∷ es)) (plannedFrom g plan k (n + 1) es) ≡ cond b (other n ∷ plannedFrom g other k (n + 1) (other n ∷ es)) (plannedFrom g other k (n + 1) es)
         go true t u v = ap (λ (l : List Entry). plan n ∷ l) (u (f n t)) ∙ ap (λ (e : Entry). e ∷ plannedFrom g other k (n + 1) (e ∷ es)) (same n (f n t))
         go false t u v = v

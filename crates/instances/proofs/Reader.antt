@@ -23,13 +23,13 @@ use Rattle.fields.specs.declared.SignedField.{SignedField}
 use Rattle.fields.specs.declared.SignedField.the-variants.{Signed, NoSigned}
 use Rattle.fields.specs.declared.Step.{Step}
 use Rattle.fields.specs.declared.Step.the-variants.{Next, Bad}
-use Rattle.fields.proofs.Reading.{took, cut, stepped, stopped}
+use Rattle.fields.proofs.Reading.{took, cut, told, untold, stepped, stopped}
 use Rattle.fields.proofs.Loops.{forget}
 use Rattle.fields.proofs.Bytes.{Bytes}
 use Rattle.numbers.specs.Bits.{bit, with, turned, withAll}
 use Rattle.numbers.specs.Lowest.{Lowest}
 use Rattle.schema.specs.Schema.{Node, schemaOf, nodeAt, noVariable}
-use Rattle.schema.specs.Table.{tableOf, Accepted, NodeIn, AtMost, SuccessorIs}
+use Rattle.schema.specs.Table.{Tabled, Accepted, NodeIn, AtMost, SuccessorIs}
 use Rattle.schema.specs.declared.Variable.{Variable}
 use Rattle.schema.specs.declared.Variable.the-variants.{Number, Listed}
 use Rattle.schema.proofs.Sound.{Sound}
@@ -44,14 +44,14 @@ use Rattle.instances.proofs.Trip.{entry-took}
 
 -- ---- a node's successors, from successor j on
 
-abbrev links : List Node → ℕ → List ℕ
+abbrev pub links : List Node → ℕ → List ℕ
 links g n = nodeAt g n .successors
 
 module _ (g : List Node) (n j : ℕ) {c : ℕ} where
-  links-more : {y : ℕ} → AtMost 8 (length (links g n)) c → j < c → SuccessorIs g n j y → drop j (links g n) ≡ y ∷ drop (j + 1) (links g n)
+  pub links-more : {y : ℕ} → AtMost 8 (length (links g n)) c → j < c → SuccessorIs g n j y → drop j (links g n) ≡ y ∷ drop (j + 1) (links g n)
   links-more {y} l h e = rw (add-one j) (drop-cons (links g n) j 0 (omega (arith, l .is)) ∙ ap (λ (z : ℕ). z ∷ drop (suc j) (links g n)) (sym (e .is)))
 
-  links-none : AtMost 8 (length (links g n)) c → c ≤ j → drop j (links g n) ≡ []
+  pub links-none : AtMost 8 (length (links g n)) c → c ≤ j → drop j (links g n) ≡ []
   links-none l h = drop-of-length-le (links g n) {i = j} (omega (arith, l .is))
 
   pub with-more : (r : ℕ) {y r₁ X : ℕ} → withAll r (drop j (links g n)) ≡ X → AtMost 8 (length (links g n)) c → j < c → SuccessorIs g n j y → r₁ ≡ with r y
@@ -109,20 +109,6 @@ module _ (s : List ℕ) (p : ℕ) (v : Variable) {r : Step} where
 
   pub value-listed : {k : ℕ} → v ≡ Listed k → r ≡ stepOf (value s (Listed k) p) → r ≡ stepOf (value s v p)
   value-listed e h = rw e h
-
--- what a signed field holds
-record Told (g : Got ℕ) (z : ℤ) (q : ℕ) : Type 0 where
-  u : ℕ
-  read : g ≡ got u q
-  is : z ≡ signed u
-
-told : (g : Got ℕ) {f : SignedField} {z : ℤ} {q : ℕ} → f ≡ signedOf g → f ≡ Signed z q → Told g z q
-told (got u p) e h = record { u = u; read = cc; is = cc }
-told (bad n o) e h = absurd (let z : _≡_ {A = ℕ} 0 1 = cc in omega arith)
-
-untold : (g : Got ℕ) {f : SignedField} {n o : ℕ} → f ≡ signedOf g → f ≡ NoSigned n o → g ≡ bad n o
-untold (got a p) e h = cc
-untold (bad n o) e h = cc
 
 module _ (s : List ℕ) (p : ℕ) (lo hi : ℤ) {f : SignedField} (e : f ≡ signedOf (whole 4 s p)) where
   pub number-cut : {n o : ℕ} → f ≡ NoSigned n o → Bad n o ≡ stepOf (value s (Number lo hi) p)
@@ -229,7 +215,7 @@ module _ (g : List Node) (m : ℕ) (s : List ℕ) (p : ℕ) {f : Step} (e : f �
 pub ruleset entering = (entry-mark, entry-cut, entry-none, entry-other, entry-this)
 
 -- the lowest node that is due is one of the schema's
-pub lowest-node : (s t : List ℕ) (m : ℕ) {l : ℕ} → Within m (length (schemaOf s)) → (m ≡ 0 → ⊥) → m < 2 ^ 64 → Lowest 64 m l → t ≡ tableOf (schemaOf s) → NodeIn s t l
+pub lowest-node : (s t : List ℕ) (m : ℕ) {l : ℕ} → Within m (length (schemaOf s)) → (m ≡ 0 → ⊥) → m < 2 ^ 64 → Lowest 64 m l → Tabled s t → NodeIn s t l
 lowest-node s t m {l} w z h e k = record { table = k; below = w .within l (lowest-set m l z h e) }
 
 -- ---- the entries

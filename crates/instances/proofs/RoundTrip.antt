@@ -3,7 +3,7 @@
 use mathlib.Core.Path.{_≡_, refl}
 use mathlib.Core.Bool.{Bool, true, false, cond}
 use mathlib.Core.List.{List, [], _∷_, _++_, List·Memᴰ, List·Memᴰ·head, List·Memᴰ·tail}
-use Prim.Native.Nat.{ℕ, zero, suc, _+_, _-_, _≤_, _<_}
+use Prim.Native.Nat.{ℕ, zero, suc, _-_, _≤_, _<_}
 use native.Mathlib.Omega.{arith}
 use borrow.Author.Tests.{eqb-true}
 use lib.Dec.{eqb}
@@ -17,8 +17,9 @@ use Rattle.schema.specs.Schema.{Node, nodeAt}
 use Rattle.schema.specs.declared.Variable.{Variable}
 use Rattle.schema.specs.declared.Variable.the-variants.{Number, Listed}
 use Rattle.schema.proofs.Sound.{Sound}
-use Rattle.instances.specs.Instance.{Entry, elem, chooses, rightChoice, Reached, root, on, Ascending, IsInstance}
+use Rattle.instances.specs.Instance.{Entry, elem, chooses, rightChoice}
 use Rattle.instances.specs.File.{IH, IN, instance, encodeValue, encodeValues, encodeEntry, encodeEntries, encode}
+use Rattle.instances.proofs.IsInstance.{Reached, root, on, Ascending, IsInstance}
 use Rattle.fields.proofs.At.{bytes-both, bytes-none, bytes-one, spell-bytes}
 use Rattle.instances.proofs.Valid.{successor-in, sound-variables, reaches-in, follows-is, is-follows}
 use Rattle.instances.proofs.Lengths.{encode-length}

@@ -11,21 +11,22 @@ use lib.Dec.{eqb, ltb}
 use lib.IntN.{ℤ, pos, negsuc}
 use lib.Signed.{leZ, mag}
 use lib.ListN.{length, length-append}
-use mir.Val.{toZ, ofZ, SFits, Fits}
+use mir.Val.{SFits}
 use mir.Syntax.{w32}
-use mir.ValLaws.{toZ-ofZ, ofZ-toZ, ofZ-fits}
-use Rattle.fields.specs.Reading.{got, part, be, whole, mark}
-use Rattle.fields.specs.Writing.{spell}
+use Rattle.fields.specs.Reading.{got, part, be, whole, mark, signed}
+use Rattle.fields.specs.Writing.{spell, unsigned}
 use Rattle.fields.proofs.Tests.{and-true, never}
 use Rattle.fields.proofs.Bytes.{Bytes, be-below, spell-length}
 use Rattle.fields.proofs.Reading.{part-ok, whole-got, ended-ok}
+use Rattle.fields.proofs.Signed.{signed-unsigned, unsigned-signed, unsigned-below}
 use Rattle.fields.proofs.Back.{went, chosen, field-back, any-back, after-mark, ended-back}
 use Rattle.schema.specs.Schema.{Node, nodeAt}
 use Rattle.schema.specs.declared.Variable.{Variable}
 use Rattle.schema.specs.declared.Variable.the-variants.{Number, Listed}
 use Rattle.schema.proofs.Sound.{SoundVariable, SoundVariables}
-use Rattle.instances.specs.Instance.{Entry, rightChoice, inDomain, inDomains, RightEntry}
+use Rattle.instances.specs.Instance.{Entry, rightChoice, inDomain}
 use Rattle.instances.specs.File.{IH, IN, due, noneBelow, lowestDue, valueWidth, valueOf, value, values, entryOf, entry, entries, instance, encodeValue, encodeValues, encodeEntry, encodeEntries, encode}
+use Rattle.instances.proofs.IsInstance.{inDomains, RightEntry}
 use Rattle.fields.proofs.At.{At, at-parts, at-both, at-inside, at-all, at-self, spell-read, read-spell, field-at, mark-at, at-mark}
 use Rattle.instances.proofs.Lengths.{entry-length}
 use Rattle.instances.proofs.Valid.{Follows, none-left, and-then}
@@ -55,8 +56,8 @@ module _ (s : List ℕ) where
   unfolding value valueWidth valueOf inDomain encodeValue
   value-read (Number lo hi) p x f d h =
       let z = between lo hi x (f .0) (f .1) d in
-      let w : toZ w32 (ofZ w32 x) ≡ x = toZ-ofZ w32 x z in
-      rw (spell-length 4 (ofZ w32 x)) (field-at 4 17 (λ u. leZ lo (toZ w32 u) && leZ (toZ w32 u) hi) s p (λ u p. got (toZ w32 u) p) (ofZ w32 x) (ofZ-fits w32 x z .fits) h (rw w d) (rw w))
+      let w = signed-unsigned x z in
+      rw (spell-length 4 (unsigned x)) (field-at 4 17 (λ u. leZ lo (signed u) && leZ (signed u) hi) s p (λ u p. got (signed u) p) (unsigned x) (unsigned-below x z) h (rw w d) (rw w))
   value-read (Listed size) p (pos x) f d h =
       let z = ltb-true x size d in
       let y = f .1 in
@@ -199,11 +200,10 @@ module _ (s : List ℕ) (f : Bytes s) where
   value-back : (v : Variable) (p : ℕ) {x : ℤ} {q : ℕ} → value s v p ≡ got x q → Span s p (encodeValue v x) q × (inDomain v x ≡ true)
   unfolding value valueWidth valueOf encodeValue
   value-back (Number lo hi) p {x} {q} e =
-      let t = field-back 4 17 (λ u. inDomain (Number lo hi) (toZ w32 u)) s p (λ u p. got (toZ w32 u) p) e in
+      let t = field-back 4 17 (λ u. inDomain (Number lo hi) (signed u)) s p (λ u p. got (signed u) p) e in
       let h = t .then in
-      let ex : toZ w32 (be 4 s p) ≡ x = cc in
-      let fit : Fits w32 (be 4 s p) = record { fits = be-below 4 s p f } in
-      (span-field 4 p (t .inside) (sym (ofZ-toZ w32 (be 4 s p) fit) ∙ ap (ofZ w32) ex) (cc), subst (λ (y : ℤ). inDomain (Number lo hi) y ≡ true) ex (t .rule-met))
+      let ex : signed (be 4 s p) ≡ x = cc in
+      (span-field 4 p (t .inside) (sym (unsigned-signed (be 4 s p) (be-below 4 s p f)) ∙ ap unsigned ex) (cc), subst (λ (y : ℤ). inDomain (Number lo hi) y ≡ true) ex (t .rule-met))
   value-back (Listed size) p {x} {q} e =
       let t = field-back 1 17 (λ u. inDomain (Listed size) (pos u)) s p (λ u p. got (pos u) p) e in
       let h = t .then in

@@ -14,8 +14,9 @@ use lib.ListN.{length, getD}
 use Rattle.fields.proofs.Tests.{and-true, or-true, or-left, or-right, never, not-yes, not-not}
 use Rattle.schema.specs.Schema.{Node, noNode, nodeAt}
 use Rattle.schema.proofs.Sound.{Rising, SoundVariables, Sound}
-use Rattle.instances.specs.Instance.{Entry, elem, chooses, reaches, rightChoice, has, Reached, root, on, RightEntry, Ascending, IsInstance}
-use Rattle.instances.specs.File.{led, due, noneBelow, lowestDue}
+use Rattle.instances.specs.Instance.{Entry, elem, chooses, reaches, rightChoice, has}
+use Rattle.instances.specs.File.{reached, due, noneBelow, lowestDue}
+use Rattle.instances.proofs.IsInstance.{Reached, root, on, RightEntry, Ascending, IsInstance}
 
 -- the entries may follow those before them
 pub data Follows (g : List Node) : List Entry → List Entry → Type 0 where
@@ -115,45 +116,45 @@ module _ (g : List Node) where
   abbrev pub Reaches : Entry → ℕ → Type 0
   Reaches e n = elem n (reaches (nodeAt g (e .node)) (e .choice)) ≡ true
 
-  pub led-root : (es : List Entry) → led g es 0 ≡ true
-  unfolding led
-  led-root [] = refl
-  led-root (e ∷ es) = or-right (elem 0 (reaches (nodeAt g (e .node)) (e .choice))) (led g es 0) (led-root es)
+  pub reached-root : (es : List Entry) → reached g es 0 ≡ true
+  unfolding reached
+  reached-root [] = refl
+  reached-root (e ∷ es) = or-right (elem 0 (reaches (nodeAt g (e .node)) (e .choice))) (reached g es 0) (reached-root es)
 
-  pub led-by : {e : Entry} {es : List Entry} (n : ℕ) → List·Memᴰ e es → Reaches e n → led g es n ≡ true
-  unfolding led
-  led-by {e} n (List·Memᴰ·head {x = x} {xs = xs} h) t =
-      or-left (elem n (reaches (nodeAt g (x .node)) (x .choice))) (led g xs n) (subst (λ (d : Entry). Reaches d n) h t)
-  led-by {e} n (List·Memᴰ·tail {x = x} {xs = xs} m) t = or-right (elem n (reaches (nodeAt g (x .node)) (x .choice))) (led g xs n) (led-by n m t)
+  pub reached-by : {e : Entry} {es : List Entry} (n : ℕ) → List·Memᴰ e es → Reaches e n → reached g es n ≡ true
+  unfolding reached
+  reached-by {e} n (List·Memᴰ·head {x = x} {xs = xs} h) t =
+      or-left (elem n (reaches (nodeAt g (x .node)) (x .choice))) (reached g xs n) (subst (λ (d : Entry). Reaches d n) h t)
+  reached-by {e} n (List·Memᴰ·tail {x = x} {xs = xs} m) t = or-right (elem n (reaches (nodeAt g (x .node)) (x .choice))) (reached g xs n) (reached-by n m t)
 
   -- the root, or reached by one of them
-  abbrev pub LedBy : List Entry → ℕ → Type 0
-  LedBy es n = (n ≡ 0) ⊎ ((e : Entry) × List·Memᴰ e es × Reaches e n)
+  abbrev pub ReachedBy : List Entry → ℕ → Type 0
+  ReachedBy es n = (n ≡ 0) ⊎ ((e : Entry) × List·Memᴰ e es × Reaches e n)
 
-  pub led-cases : (es : List Entry) (n : ℕ) → led g es n ≡ true → LedBy es n
-  unfolding led
-  led-cases [] n t = inl (eqb-true n 0 t)
-  led-cases (e ∷ es) n t = go (led-cases es n) (or-true (elem n (reaches (nodeAt g (e .node)) (e .choice))) (led g es n) t)
+  pub reached-cases : (es : List Entry) (n : ℕ) → reached g es n ≡ true → ReachedBy es n
+  unfolding reached
+  reached-cases [] n t = inl (eqb-true n 0 t)
+  reached-cases (e ∷ es) n t = go (reached-cases es n) (or-true (elem n (reaches (nodeAt g (e .node)) (e .choice))) (reached g es n) t)
     where
-      more : LedBy es n → LedBy (e ∷ es) n
+      more : ReachedBy es n → ReachedBy (e ∷ es) n
       more (inl z) = inl z
       more (inr w) = inr (w .0, List·Memᴰ·tail (w .1), w .2)
 
-      go : (led g es n ≡ true → LedBy es n) → Reaches e n ⊎ (led g es n ≡ true) → LedBy (e ∷ es) n
+      go : (reached g es n ≡ true → ReachedBy es n) → Reaches e n ⊎ (reached g es n ≡ true) → ReachedBy (e ∷ es) n
       go ih (inl q) = inr (e, List·Memᴰ·head refl, q)
       go ih (inr q) = more (ih q)
 
-  pub due-led : (es : List Entry) (n : ℕ) → due g es n ≡ true → led g es n ≡ true
+  pub due-reached : (es : List Entry) (n : ℕ) → due g es n ≡ true → reached g es n ≡ true
   unfolding due
-  due-led es n t = and-true (led g es n) (not (has es n)) t .0
+  due-reached es n t = and-true (reached g es n) (not (has es n)) t .0
 
   pub due-not : (es : List Entry) (n : ℕ) → due g es n ≡ true → has es n ≡ true → ⊥
   unfolding due
-  due-not es n t = not-yes (has es n) (and-true (led g es n) (not (has es n)) t .1)
+  due-not es n t = not-yes (has es n) (and-true (reached g es n) (not (has es n)) t .1)
 
-  pub led-due : (es : List Entry) (n : ℕ) → led g es n ≡ true → (has es n ≡ true → ⊥) → due g es n ≡ true
+  pub reached-due : (es : List Entry) (n : ℕ) → reached g es n ≡ true → (has es n ≡ true → ⊥) → due g es n ≡ true
   unfolding due
-  led-due es n t f = rw t (not-not (has es n) f)
+  reached-due es n t f = rw t (not-not (has es n) f)
 
   pub lowest-due : (es : List Entry) (n : ℕ) → lowestDue g es n ≡ true → due g es n ≡ true
   unfolding lowestDue
@@ -173,15 +174,15 @@ module _ (g : List Node) where
 
   -- after one entry more a node is due that was due before and is not its own, or that it reaches
   pub due-cases : (es : List Entry) (e : Entry) (n : ℕ) → due g (e ∷ es) n ≡ true → ((due g es n ≡ true) × (n ≡ e .node → ⊥)) ⊎ Reaches e n
-  unfolding led has
-  due-cases es e n d = go (or-true (elem n (reaches (nodeAt g (e .node)) (e .choice))) (led g es n) (due-led (e ∷ es) n d))
+  unfolding reached has
+  due-cases es e n d = go (or-true (elem n (reaches (nodeAt g (e .node)) (e .choice))) (reached g es n) (due-reached (e ∷ es) n d))
     where
       free : (eqb (e .node) n || has es n ≡ true) → ⊥
       free t = due-not (e ∷ es) n d t
 
-      go : Reaches e n ⊎ (led g es n ≡ true) → ((due g es n ≡ true) × (n ≡ e .node → ⊥)) ⊎ Reaches e n
+      go : Reaches e n ⊎ (reached g es n ≡ true) → ((due g es n ≡ true) × (n ≡ e .node → ⊥)) ⊎ Reaches e n
       go (inl t) = inr t
-      go (inr t) = inl (led-due es n t (λ h. free (or-right (eqb (e .node) n) (has es n) h)), λ h. free (or-left (eqb (e .node) n) (has es n) (eq-eqb (e .node) n (sym h))))
+      go (inr t) = inl (reached-due es n t (λ h. free (or-right (eqb (e .node) n) (has es n) h)), λ h. free (or-left (eqb (e .node) n) (has es n) (eq-eqb (e .node) n (sym h))))
 
 -- ---- what is read in turn is an instance
 
@@ -230,10 +231,10 @@ module _ (g : List Node) (sound : Sound g) where
       among : (e : Entry) → List·Memᴰ e es → List·Memᴰ e whole
       reached : (e : Entry) → List·Memᴰ e es → Reached g whole (e .node)
 
-    led-reached : (es : List Entry) → Before es → (n : ℕ) → led g es n ≡ true → Reached g whole n
-    led-reached es b n t = go (led-cases g es n t)
+    before-reached : (es : List Entry) → Before es → (n : ℕ) → reached g es n ≡ true → Reached g whole n
+    before-reached es b n t = go (reached-cases g es n t)
       where
-        go : LedBy g es n → Reached g whole n
+        go : ReachedBy g es n → Reached g whole n
         go (inl z) = subst (Reached g whole) (sym z) root
         go (inr w) = on (w .0) (b .reached (w .0) (w .1)) (b .among (w .0) (w .1)) (w .2)
 
@@ -245,7 +246,7 @@ module _ (g : List Node) (sound : Sound g) where
         go d (List·Memᴰ·tail n) = b .among d n
 
         far : (d : Entry) → List·Memᴰ d (e ∷ es) → Reached g whole (d .node)
-        far d (List·Memᴰ·head q) = subst (λ (x : Entry). Reached g whole (x .node)) (sym q) (led-reached es b (e .node) (due-led g es (e .node) (lowest-due g es (e .node) l)))
+        far d (List·Memᴰ·head q) = subst (λ (x : Entry). Reached g whole (x .node)) (sym q) (before-reached es b (e .node) (due-reached g es (e .node) (lowest-due g es (e .node) l)))
         far d (List·Memᴰ·tail n) = b .reached d n
 
     -- what there is at the end
@@ -292,16 +293,16 @@ module _ (g : List Node) (sound : Sound g) where
       c : Closed i i []
       c = closed i f (record { among = λ e m. mem-none m; reached = λ e m. mem-none m }) (λ d m. m)
 
-      within : (n : ℕ) → led g (c .all) n ≡ true → n < length g → has i n ≡ true
+      within : (n : ℕ) → reached g (c .all) n ≡ true → n < length g → has i n ≡ true
       within n t l = there (has (c .all) n) refl
         where
           there : (b : Bool) → has (c .all) n ≡ b → has i n ≡ true
           there true h = let w = has-mem (c .all) n h in subst (λ (k : ℕ). has i k ≡ true) (w .2) (mem-has (c .before .among (w .0) (w .1)))
-          there false h = absurd (none-at (due g (c .all)) (length g) (c .none) n l (led-due g (c .all) n t (λ z. never (sym h ∙ z))))
+          there false h = absurd (none-at (due g (c .all)) (length g) (c .none) n l (reached-due g (c .all) n t (λ z. never (sym h ∙ z))))
 
       go : (n : ℕ) → Reached g i n → has i n ≡ true
-      go n root = within 0 (led-root g (c .all)) (sound .some)
-      go n (on e r m t) = within n (led-by g n (c .new e m) t) (reaches-in e (c .right e m .right-choice) n t .1)
+      go n root = within 0 (reached-root g (c .all)) (sound .some)
+      go n (on e r m t) = within n (reached-by g n (c .new e m) t) (reaches-in e (c .right e m .right-choice) n t .1)
 
   -- ---- an instance can be read in turn
 
@@ -313,26 +314,26 @@ module _ (g : List Node) (sound : Sound g) where
       apart : (d e : Entry) → List·Memᴰ d es → List·Memᴰ e rest → d .node < e .node
       rising : Ascending rest
 
-    led-then : {es rest : List Entry} → Split es rest → (n : ℕ) → led g es n ≡ true → has whole n ≡ true
-    led-then {es} w n t = go (led-cases g es n t)
+    reached-then : {es rest : List Entry} → Split es rest → (n : ℕ) → reached g es n ≡ true → has whole n ≡ true
+    reached-then {es} w n t = go (reached-cases g es n t)
       where
-        go : LedBy g es n → has whole n ≡ true
+        go : ReachedBy g es n → has whole n ≡ true
         go (inl z) = ok .every n (subst (Reached g whole) (sym z) root)
         go (inr q) = ok .every n (on (q .0) (ok .only (q .0) (w .early (q .0) (q .1))) (w .early (q .0) (q .1)) (q .2))
 
     -- a reached node that no later entry is below was reached by the earlier ones
-    then-led : {es rest : List Entry} → Split es rest → (n : ℕ) → ((e : Entry) → List·Memᴰ e rest → n ≤ e .node) → Reached g whole n → led g es n ≡ true
-    then-led {es} w n h root = led-root g es
-    then-led {es} {rest} w n h (on e r m t) = go (w .each e m)
+    then-reached : {es rest : List Entry} → Split es rest → (n : ℕ) → ((e : Entry) → List·Memᴰ e rest → n ≤ e .node) → Reached g whole n → reached g es n ≡ true
+    then-reached {es} w n h root = reached-root g es
+    then-reached {es} {rest} w n h (on e r m t) = go (w .each e m)
       where
-        go : List·Memᴰ e es ⊎ List·Memᴰ e rest → led g es n ≡ true
-        go (inl k) = led-by g n k t
+        go : List·Memᴰ e es ⊎ List·Memᴰ e rest → reached g es n ≡ true
+        go (inl k) = reached-by g n k t
         go (inr k) = absurd (let a = h e k in let b = reaches-in e (ok .right e m .right-choice) n t .0 in omega arith)
 
     -- a node that is due is among those to come
     to-come : {es rest : List Entry} → Split es rest → (n : ℕ) → due g es n ≡ true → (e : Entry) × List·Memᴰ e rest × (e .node ≡ n)
     to-come {es} {rest} w n d =
-        let q = has-mem whole n (led-then w n (due-led g es n d)) in
+        let q = has-mem whole n (reached-then w n (due-reached g es n d)) in
         go (q .0) (q .2) (w .each (q .0) (q .1))
       where
         go : (e : Entry) → e .node ≡ n → List·Memᴰ e es ⊎ List·Memᴰ e rest → (e : Entry) × List·Memᴰ e rest × (e .node ≡ n)
@@ -344,10 +345,10 @@ module _ (g : List Node) (sound : Sound g) where
     first-least e rest a d (List·Memᴰ·tail m) = let z = a .0 d m in omega arith
 
     split-lowest : (es rest : List Entry) (e : Entry) → Split es (e ∷ rest) → lowestDue g es (e .node) ≡ true
-    split-lowest es rest e w = due-lowest g es (e .node) (led-due g es (e .node) l n) (λ k d. least k (to-come w k d))
+    split-lowest es rest e w = due-lowest g es (e .node) (reached-due g es (e .node) l n) (λ k d. least k (to-come w k d))
       where
-        l : led g es (e .node) ≡ true
-        l = then-led w (e .node) (first-least e rest (w .rising)) (ok .only e (w .late e (List·Memᴰ·head refl)))
+        l : reached g es (e .node) ≡ true
+        l = then-reached w (e .node) (first-least e rest (w .rising)) (ok .only e (w .late e (List·Memᴰ·head refl)))
 
         n : has es (e .node) ≡ true → ⊥
         n h =

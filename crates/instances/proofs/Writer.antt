@@ -13,21 +13,21 @@ use lib.Seq.{take-at, drop-at, length-take-le}
 use mir.Val.{toZ, ofZ, Fits}
 use mir.ValLaws.{ofZ-toZ}
 use mir.Syntax.{w8, w32, w64}
-use Rattle.fields.specs.Writing.{spell, put}
+use Rattle.fields.specs.Writing.{spell, put, Wrote}
 use Rattle.fields.proofs.Bytes.{Bytes, spell-length, put-none, put-put}
 use Rattle.fields.proofs.Tests.{alike, or-true, or-left, or-right}
 use Rattle.numbers.specs.Bits.{bit, withAll}
 use Rattle.numbers.proofs.Bits.{pow-bit, all-keeps, all-in, all-only}
 use Rattle.schema.specs.Schema.{Node, schemaOf, nodeAt, noVariable}
-use Rattle.schema.specs.Table.{tableOf, Accepted, NodeIn, AtMost}
+use Rattle.schema.specs.Table.{Tabled, Accepted, NodeIn, AtMost}
 use Rattle.schema.specs.declared.Variable.{Variable}
 use Rattle.schema.specs.declared.Variable.the-variants.{Number, Listed}
 use Rattle.schema.proofs.Accepted.{sound}
 use Rattle.schema.proofs.Access.{node-small}
 use Rattle.instances.specs.Instance.{Entry, elem, reaches}
-use Rattle.instances.specs.File.{IH, IN, led, valueOf, encodeValue, encodeValues, encodeEntry, encodeEntries, encode}
+use Rattle.instances.specs.File.{IH, IN, reached, valueOf, encodeValue, encodeValues, encodeEntry, encodeEntries, encode}
 use Rattle.instances.specs.Plan.{plannedFrom, planned, valuesFrom, planOf}
-use Rattle.instances.specs.Writer.{Wrote, WroteEntries}
+use Rattle.instances.specs.Writer.{WroteEntries}
 use Rattle.instances.specs.declared.EntriesPut.{EntriesPut}
 use Rattle.instances.proofs.Planned.{planned-longest}
 use Rattle.instances.proofs.Reader.{vars-more}
@@ -170,7 +170,7 @@ or-swap false false = refl
 -- nodes below n were passed; es are the entries so far, whose reached nodes are the bits of m
 pub record Walking (g : List Node) (plan : ℕ → Entry) (b₀ : List ℕ) (n m at count : ℕ) (b : List ℕ) : Type 0 where
   pub es : List Entry
-  pub bits : (j : ℕ) → j < 64 → bit m j ≡ led g es j
+  pub bits : (j : ℕ) → j < 64 → bit m j ≡ reached g es j
   pub upto : n ≤ length g
   pub few : count ≤ n
   pub room : at ≤ 3 + 20 * n
@@ -178,7 +178,7 @@ pub record Walking (g : List Node) (plan : ℕ → Entry) (b₀ : List ℕ) (n m
   pub counts : count + length (plannedFrom g plan (length g - n) n es) ≡ length (planned g plan)
 
 pub walk-none : (g : List Node) (plan : ℕ → Entry) (b : List ℕ) → Walking g plan b 0 1 3 0 b
-unfolding led planned
+unfolding reached planned
 walk-none g plan b =
     let z : length g - 0 ≡ length g = omega arith in
     record {
@@ -215,8 +215,8 @@ module _ (f : List ℕ) (plan : ℕ → Entry) (b₀ : List ℕ) (n m at count :
     less : length (schemaOf f) - n ≡ suc (length (schemaOf f) - (n + 1))
     less = omega (arith, l .is)
 
-    is-led : {u : Bool} → t ≡ u → led (schemaOf f) (w .es) n ≡ u
-    is-led q = sym (w .bits n (walk-small h)) ∙ sym e ∙ q
+    is-reached : {u : Bool} → t ≡ u → reached (schemaOf f) (w .es) n ≡ u
+    is-reached q = sym (w .bits n (walk-small h)) ∙ sym e ∙ q
 
     done-at : Putting b₀ 3 (encodeEntries (schemaOf f) (planned (schemaOf f) plan)) b at (encodeEntries (schemaOf f) (plannedFrom (schemaOf f) plan (suc (length (schemaOf f) - (n + 1))) n (w .es)))
     done-at = subst (λ (k : ℕ). Putting b₀ 3 (encodeEntries (schemaOf f) (planned (schemaOf f) plan)) b at (encodeEntries (schemaOf f) (plannedFrom (schemaOf f) plan k n (w .es)))) less (w .done)
@@ -227,7 +227,7 @@ module _ (f : List ℕ) (plan : ℕ → Entry) (b₀ : List ℕ) (n m at count :
     pub walk-skip : t ≡ false → Walking (schemaOf f) plan b₀ (n + 1) m at count b
     unfolding plannedFrom
     walk-skip q =
-        let r = is-led q in
+        let r = is-reached q in
         record {
           es = w .es;
           bits = w .bits;
@@ -240,11 +240,11 @@ module _ (f : List ℕ) (plan : ℕ → Entry) (b₀ : List ℕ) (n m at count :
 
     walk-take : {m₁ r v : ℕ} {d : List ℕ} → t ≡ true → Accepted f → Bytes f → 1283 ≤ length b₀ → Wrote b at (encodeEntry (schemaOf f) (plan n)) d r → length d ≡ length b
         → plan n .node ≡ n → v ≡ plan n .choice → m₁ ≡ withAll m (reaches (nodeAt (schemaOf f) n) v) → Walking (schemaOf f) plan b₀ (n + 1) m₁ r (count + 1) d
-    unfolding plannedFrom encodeEntries led
+    unfolding plannedFrom encodeEntries reached
     walk-take {m₁} {r} {v} {d} q a x y wr ld own ev em =
         let g = schemaOf f in
         let rest = plannedFrom g plan (length g - (n + 1)) (n + 1) (plan n ∷ w .es) in
-        let re = is-led q in
+        let re = is-reached q in
         let dp : Putting b₀ 3 (encodeEntries g (planned g plan)) b at (encodeEntry g (plan n) ++ encodeEntries g rest) = rw re at done-at in
         let cp : count + suc (length rest) ≡ length (planned g plan) = rw re at counts-at in
         let to : reaches (nodeAt g n) v ≡ reaches (nodeAt g (plan n .node)) (plan n .choice) = rw (own, ev) in
@@ -270,7 +270,7 @@ pub walk-put : (f choices bits b₀ : List ℕ) (n m at count : ℕ) (b : List �
 unfolding planOf
 walk-put f choices bits b₀ n m at count b w l h e q a x y wr ld ev em = walk-take f (planOf (schemaOf f) choices bits) b₀ n m at count b w l h e q a x y wr ld refl ev em
 
-pub walk-node : (f t : List ℕ) (n : ℕ) {c : ℕ} → AtMost 64 (length (schemaOf f)) c → n < c → t ≡ tableOf (schemaOf f) → NodeIn f t n
+pub walk-node : (f t : List ℕ) (n : ℕ) {c : ℕ} → AtMost 64 (length (schemaOf f)) c → n < c → Tabled f t → NodeIn f t n
 walk-node f t n l h e = record { table = e; below = omega (arith, l .is) }
 
 -- ---- the file

@@ -22,13 +22,13 @@ IN = 0x49 ∷ 0x4e ∷ []
 -- ---- reading
 
 -- n is the root, or one of the entries read so far reaches it
-unfoldable pub led : List Node → List Entry → ℕ → Bool
-led g [] n = eqb n 0
-led g (e ∷ es) n = elem n (reaches (nodeAt g (e .node)) (e .choice)) || led g es n
+unfoldable pub reached : List Node → List Entry → ℕ → Bool
+reached g [] n = eqb n 0
+reached g (e ∷ es) n = elem n (reaches (nodeAt g (e .node)) (e .choice)) || reached g es n
 
 -- 'a reached node without an entry'
 unfoldable pub due : List Node → List Entry → ℕ → Bool
-due g es n = led g es n && not (has es n)
+due g es n = reached g es n && not (has es n)
 
 -- nothing below k passes
 unfoldable pub noneBelow : (ℕ → Bool) → ℕ → Bool
@@ -54,6 +54,7 @@ value s v p =
     field (valueWidth v) 17 (λ u. inDomain v (valueOf v u)) s p λ u p.
     got (valueOf v u) p
 
+-- a value for each variable
 unfoldable pub values : List ℕ → List Variable → ℕ → Got (List ℤ)
 values s [] p = got [] p
 values s (v ∷ vs) p =
@@ -91,7 +92,7 @@ instance g s =
     part (entries s g m [] p) λ i p.
     ended s i p
 
--- ---- writing
+-- ---- writing: the same fields, put in turn
 
 unfoldable pub encodeValue : Variable → ℤ → List ℕ
 encodeValue (Number lo hi) x = spell 4 (unsigned x)

@@ -7,22 +7,23 @@ use lib.IntN.{ℤ}
 use Rattle.schema.specs.Schema.{Node, nodeAt}
 use Rattle.schema.specs.declared.Variable.{Variable}
 use Rattle.instances.specs.Instance.{Entry}
-use Rattle.instances.specs.File.{led, valueOf}
+use Rattle.instances.specs.File.{reached, valueOf}
 
 -- of k nodes from n on, those that the entries before them reach; es are the entries so far
 unfoldable pub plannedFrom : List Node → (ℕ → Entry) → ℕ → ℕ → List Entry → List Entry
 plannedFrom g plan zero n es = []
 plannedFrom g plan (suc k) n es =
-    cond (led g es n) (plan n ∷ plannedFrom g plan k (n + 1) (plan n ∷ es)) (plannedFrom g plan k (n + 1) es)
+    cond (reached g es n) (plan n ∷ plannedFrom g plan k (n + 1) (plan n ∷ es)) (plannedFrom g plan k (n + 1) es)
 
 unfoldable pub planned : List Node → (ℕ → Entry) → List Entry
 planned g plan = plannedFrom g plan (length g) 0 []
 
--- the plan that arrays hold: a choice for each node, and the bits of its values, four places for each node
+-- the values whose bits stand from place k on
 unfoldable pub valuesFrom : List Variable → List ℕ → ℕ → List ℤ
 valuesFrom [] bits k = []
 valuesFrom (v ∷ vs) bits k = valueOf v (getD bits k 0) ∷ valuesFrom vs bits (k + 1)
 
+-- the plan that arrays hold: a choice for each node, and the bits of its values, four places for each node
 unfoldable pub planOf : List Node → List ℕ → List ℕ → ℕ → Entry
 planOf g choices bits n =
     record { node = n; choice = getD choices n 0; values = valuesFrom (nodeAt g n .variables) bits (4 * n) }

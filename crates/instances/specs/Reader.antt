@@ -1,4 +1,4 @@
--- What the reader's functions answer: the nodes that are due are the bits of a number.
+-- An entry where the nodes that are due are the bits of a number: for the contracts of functions that no other crate calls.
 use Prim.Native.Nat.{ℕ, _<_}
 use mathlib.Core.Path.{_≡_}
 use mathlib.Core.Bool.{Bool, true, _&&_}

@@ -3,18 +3,19 @@ ghost use mathlib.Core.Path.{_≡_};
 ghost use mathlib.Core.List.{[]};
 ghost use Prim.Native.Nat.{_+_, _*_, _≤_};
 ghost use lib.ListN.{length, take};
+ghost use Rattle.fields.specs.Writing.{Wrote};
 ghost use Rattle.fields.specs.Answers.{stepOf};
+ghost use Rattle.fields.specs.Outcomes.{Did, placed};
 ghost use Rattle.numbers.specs.Bits.{bit, withAll};
 ghost use Rattle.schema.specs.Schema.{schemaOf, nodeAt};
-ghost use Rattle.schema.specs.Table.{tableOf, Accepted, NodeIn, AtMost};
+ghost use Rattle.schema.specs.Table.{Tabled, Accepted, NodeIn, AtMost};
 ghost use Rattle.instances.specs.Instance.{elem, chooses, reaches, rightChoice};
 ghost use Rattle.instances.specs.File.{valueWidth, valueOf, value, values, entryOf, entries, instance, encodeValue, encodeValues, encodeEntry, encode};
 ghost use Rattle.instances.specs.Plan.{planned, valuesFrom, planOf};
 ghost use Rattle.instances.specs.Reader.{entryWhere, entryIn, Within};
 ghost use Rattle.instances.specs.Lookup.{instanceOf, Readable, valuesWidth, choicesOf};
-ghost use Rattle.instances.specs.Writer.{Wrote, WroteEntries};
+ghost use Rattle.instances.specs.Writer.{WroteEntries};
 ghost use Rattle.instances.specs.Copying.{copyingUnder, copying};
-ghost use Rattle.fields.specs.Outcomes.{Did, placed};
 use fields::Answer;
 use fields::Field;
 use fields::SignedField;
@@ -33,7 +34,7 @@ enum EntryRead {
     NoEntry { number: u8, offset: usize },
 }
 
-fn has_successor(schema: &[u8], table: &[usize; 320], n: usize, x: usize) -> bool
+fn has_successor(schema: &[u8], table: &[usize], n: usize, x: usize) -> bool
     requires { ⌜ NodeIn (now schema) (now table) n ⌝ }
     ensures { λ r. ⌜ r ≡ elem x (nodeAt (schemaOf (now (schema .entry))) n .successors) ⌝ }
 {
@@ -49,7 +50,7 @@ fn has_successor(schema: &[u8], table: &[usize; 320], n: usize, x: usize) -> boo
 }
 
 // Whether a node is of kind 1 and has successors.
-pub fn chooses(schema: &[u8], table: &[usize; 320], n: usize) -> bool
+pub fn chooses(schema: &[u8], table: &[usize], n: usize) -> bool
     requires { ⌜ NodeIn (now schema) (now table) n ⌝ }
     ensures { λ r. ⌜ r ≡ chooses (nodeAt (schemaOf (now (schema .entry))) n) ⌝ }
 {
@@ -59,7 +60,7 @@ pub fn chooses(schema: &[u8], table: &[usize; 320], n: usize) -> bool
     false
 }
 
-fn right_choice(schema: &[u8], table: &[usize; 320], n: usize, c: usize) -> bool
+fn right_choice(schema: &[u8], table: &[usize], n: usize, c: usize) -> bool
     requires { ⌜ NodeIn (now schema) (now table) n ⌝ }
     ensures { λ r. ⌜ r ≡ rightChoice (nodeAt (schemaOf (now (schema .entry))) n) c ⌝ }
 {
@@ -69,7 +70,7 @@ fn right_choice(schema: &[u8], table: &[usize; 320], n: usize, c: usize) -> bool
     c == 255
 }
 
-fn with_successors(schema: &[u8], table: &[usize; 320], n: usize, m: u64) -> u64
+fn with_successors(schema: &[u8], table: &[usize], n: usize, m: u64) -> u64
     requires { ⌜ NodeIn (now schema) (now table) n ⌝ }
     ensures { λ r. ⌜ r ≡ withAll m (nodeAt (schemaOf (now (schema .entry))) n .successors) ⌝ }
 {
@@ -85,7 +86,7 @@ fn with_successors(schema: &[u8], table: &[usize; 320], n: usize, m: u64) -> u64
 }
 
 // The set with the nodes that node n reaches by choice c.
-fn reach(schema: &[u8], table: &[usize; 320], n: usize, c: usize, m: u64) -> u64
+fn reach(schema: &[u8], table: &[usize], n: usize, c: usize, m: u64) -> u64
     requires { ⌜ NodeIn (now schema) (now table) n ⌝ }
     ensures { λ r. ⌜ r ≡ withAll m (reaches (nodeAt (schemaOf (now (schema .entry))) n) c) ⌝ }
 {
@@ -144,7 +145,7 @@ fn read_value(v: Variable, s: &[u8], at: usize) -> Step
     }
 }
 
-fn read_values(schema: &[u8], table: &[usize; 320], n: usize, s: &[u8], from: usize) -> Step
+fn read_values(schema: &[u8], table: &[usize], n: usize, s: &[u8], from: usize) -> Step
     requires { ⌜ NodeIn (now schema) (now table) n ⌝ }
     ensures { λ r. ⌜ r ≡ stepOf (values (now (s .entry)) (nodeAt (schemaOf (now (schema .entry))) n .variables) from) ⌝ }
 {
@@ -169,7 +170,7 @@ fn read_values(schema: &[u8], table: &[usize; 320], n: usize, s: &[u8], from: us
 // Node n's choice and values.
 fn read_entry_of(
     schema: &[u8],
-    table: &[usize; 320],
+    table: &[usize],
     n: usize,
     due: u64,
     s: &[u8],
@@ -201,8 +202,8 @@ fn read_entry_of(
 }
 
 // An entry, of the lowest of the nodes that are due.
-fn read_entry(schema: &[u8], table: &[usize; 320], due: u64, s: &[u8], from: usize) -> EntryRead
-    requires { ⌜ now table ≡ tableOf (schemaOf (now schema)) ⌝ }
+fn read_entry(schema: &[u8], table: &[usize], due: u64, s: &[u8], from: usize) -> EntryRead
+    requires { ⌜ Tabled (now schema) (now table) ⌝ }
     requires { ⌜ Within due (length (schemaOf (now schema))) ⌝ }
     ensures { λ r. ⌜ r ≡ entryIn (schemaOf (now (schema .entry))) due (entryWhere (now (s .entry)) (schemaOf (now (schema .entry))) (bit due) from) ⌝ }
 {
@@ -231,9 +232,9 @@ fn read_entry(schema: &[u8], table: &[usize; 320], due: u64, s: &[u8], from: usi
 }
 
 // m entries, each node once: the nodes that are due are the bits of a number.
-fn read_entries(schema: &[u8], table: &[usize; 320], s: &[u8], m: u32, from: usize) -> Step
+fn read_entries(schema: &[u8], table: &[usize], s: &[u8], m: u32, from: usize) -> Step
     requires { ⌜ Accepted (now schema) ⌝ }
-    requires { ⌜ now table ≡ tableOf (schemaOf (now schema)) ⌝ }
+    requires { ⌜ Tabled (now schema) (now table) ⌝ }
     ensures { λ r. ⌜ r ≡ stepOf (entries (now (s .entry)) (schemaOf (now (schema .entry))) m [] from) ⌝ }
 {
     let mut left = m;
@@ -261,9 +262,9 @@ fn read_entries(schema: &[u8], table: &[usize; 320], s: &[u8], m: u32, from: usi
 }
 
 // The whole file, against an accepted schema and its table.
-pub fn read_instance(schema: &[u8], table: &[usize; 320], s: &[u8]) -> Step
+pub fn read_instance(schema: &[u8], table: &[usize], s: &[u8]) -> Step
     requires { ⌜ Accepted (now schema) ⌝ }
-    requires { ⌜ now table ≡ tableOf (schemaOf (now schema)) ⌝ }
+    requires { ⌜ Tabled (now schema) (now table) ⌝ }
     ensures { λ r. ⌜ r ≡ stepOf (instance (schemaOf (now (schema .entry))) (now (s .entry))) ⌝ }
 {
     match fields::read_mark(s, 0, b"IH") {
@@ -296,7 +297,7 @@ fn value_width(v: Variable) -> usize
 }
 
 // How many bytes node n's values have in an instance file.
-pub fn values_width(schema: &[u8], table: &[usize; 320], n: usize) -> usize
+pub fn values_width(schema: &[u8], table: &[usize], n: usize) -> usize
     requires { ⌜ NodeIn (now schema) (now table) n ⌝ }
     ensures { λ r. ⌜ AtMost 16 (valuesWidth (nodeAt (schemaOf (now (schema .entry))) n .variables)) r ⌝ }
 {
@@ -312,9 +313,9 @@ pub fn values_width(schema: &[u8], table: &[usize; 320], n: usize) -> usize
 }
 
 // The choices of an accepted instance by node, 255 where a node has no entry.
-pub fn choices(schema: &[u8], table: &[usize; 320], s: &[u8]) -> [u8; 64]
+pub fn choices(schema: &[u8], table: &[usize], s: &[u8]) -> [u8; 64]
     requires { ⌜ Accepted (now schema) ⌝ }
-    requires { ⌜ now table ≡ tableOf (schemaOf (now schema)) ⌝ }
+    requires { ⌜ Tabled (now schema) (now table) ⌝ }
     requires { ⌜ Readable (schemaOf (now schema)) (now s) ⌝ }
     ensures { λ r. ⌜ r ≡ choicesOf (instanceOf (schemaOf (now (schema .entry))) (now (s .entry))) ⌝ }
 {
@@ -348,7 +349,7 @@ fn put_value(v: Variable, u: u32, out: &mut [u8], at: usize) -> usize
 
 fn put_values(
     schema: &[u8],
-    table: &[usize; 320],
+    table: &[usize],
     n: usize,
     bits: &[u32; 256],
     out: &mut [u8],
@@ -373,7 +374,7 @@ fn put_values(
 // Node n's entry, as the arrays hold it.
 fn put_entry(
     schema: &[u8],
-    table: &[usize; 320],
+    table: &[usize],
     n: usize,
     choices: &[u8; 64],
     bits: &[u32; 256],
@@ -399,13 +400,13 @@ fn widened(x: u8) -> usize
 // The entries of the reached nodes from byte 3 on; the reached nodes are the bits of a number.
 fn put_entries(
     schema: &[u8],
-    table: &[usize; 320],
+    table: &[usize],
     choices: &[u8; 64],
     bits: &[u32; 256],
     out: &mut [u8],
 ) -> EntriesPut
     requires { ⌜ Accepted (now schema) ⌝ }
-    requires { ⌜ now table ≡ tableOf (schemaOf (now schema)) ⌝ }
+    requires { ⌜ Tabled (now schema) (now table) ⌝ }
     requires { ⌜ 1283 ≤ length (now out) ⌝ }
     ensures { λ r. ⌜ WroteEntries (schemaOf (now (schema .entry))) (planned (schemaOf (now (schema .entry))) (planOf (schemaOf (now (schema .entry))) (now (choices .entry)) (now (bits .entry)))) (now (out .entry)) (now (out .exit)) r ⌝ }
 {
@@ -430,13 +431,13 @@ fn put_entries(
 // The file of the instance that the arrays hold, at the start of a buffer that is long enough for any.
 pub fn write_planned(
     schema: &[u8],
-    table: &[usize; 320],
+    table: &[usize],
     choices: &[u8; 64],
     bits: &[u32; 256],
     out: &mut [u8],
 ) -> usize
     requires { ⌜ Accepted (now schema) ⌝ }
-    requires { ⌜ now table ≡ tableOf (schemaOf (now schema)) ⌝ }
+    requires { ⌜ Tabled (now schema) (now table) ⌝ }
     requires { ⌜ 1283 ≤ length (now out) ⌝ }
     ensures { λ r. ⌜ Wrote (now (out .entry)) 0 (encode (schemaOf (now (schema .entry))) (planned (schemaOf (now (schema .entry))) (planOf (schemaOf (now (schema .entry))) (now (choices .entry)) (now (bits .entry))))) (now (out .exit)) r ⌝ }
 {
@@ -473,7 +474,8 @@ fn copy_instance(schema: &[u8], s: &[u8], out: &mut [u8]) -> Answer
     requires { ⌜ Accepted (now schema) ⌝ }
     ensures { λ r. ⌜ Did (copyingUnder (schemaOf (now (schema .entry))) (now (s .entry)) (now (out .entry))) r (now (out .exit)) ⌝ }
 {
-    let table = schema::table_of(schema);
+    let mut table = [0usize; 320];
+    schema::fill_table(schema, &mut table);
     match read_instance(schema, &table, s) {
         Step::Bad { number, offset } => Answer {
             number,

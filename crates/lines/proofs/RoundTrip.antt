@@ -11,7 +11,7 @@ use lib.ListN.{getD, List·getD-append}
 use Rattle.fields.proofs.Bytes.{Bytes}
 use Rattle.fields.proofs.Tests.{and-yes, and-true, or-left, or-right}
 use Rattle.lines.specs.Line.{decimal, hexDigit, hex, dash, words, line, result, lineOf, badLineOf}
-use Rattle.lines.specs.ReadBack.{wordsFrom, wordsOf, valueFrom, valueOf, halfOf, bytesOf, isDigit, isHexDigit, every}
+use Rattle.lines.proofs.ReadBack.{wordsFrom, wordsOf, valueFrom, valueOf, halfOf, bytesOf, isDigit, isHexDigit, every}
 use Rattle.lines.proofs.Decimal.{by-tens, decimal-one, decimal-more, decimal-some}
 use Rattle.lines.proofs.Hex.{digit-low, digit-high}
 

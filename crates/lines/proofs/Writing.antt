@@ -8,9 +8,9 @@ use native.Mathlib.Numerals.{add-one}
 use lib.ListN.{length, getD, set, take, drop, length-append, length-set, drop-of-length-le}
 use lib.Seq.{take-set-le, set-split, drop-at, length-take-le, drop-cons}
 use borrow.Author.Tests.{eq-eqb, ne-eqb}
-use Rattle.fields.specs.Writing.{put}
+use Rattle.fields.specs.Writing.{put, Wrote}
 use Rattle.fields.proofs.Bytes.{put-none, put-put, put-one, put-two}
-use Rattle.lines.specs.Line.{decimal, hexDigit, hex, dash, words, line, result, lineOf, badLineOf, Wrote, Laid}
+use Rattle.lines.specs.Line.{decimal, hexDigit, hex, dash, words, line, result, lineOf, badLineOf, Laid}
 use Rattle.lines.proofs.Decimal.{decimal-one, decimal-more, length-more, decimal-some, short-byte, short-day, short-word}
 use Rattle.lines.proofs.Hex.{hex-length}
 use Rattle.lines.proofs.Lengths.{word-length}

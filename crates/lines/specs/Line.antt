@@ -1,11 +1,9 @@
 -- The lines that passplan prints, as ASCII codes (01, 'The program').
 use Prim.Native.Nat.{ℕ, zero, suc, _+_, _/_, _%_, _≤_}
-use mathlib.Core.Path.{_≡_}
 use mathlib.Core.Bool.{cond}
 use mathlib.Core.List.{List, [], _∷_, _++_}
-use lib.ListN.{length}
 use lib.Dec.{ltb, eqb}
-use Rattle.fields.specs.Writing.{put}
+use Rattle.fields.specs.Writing.{Wrote}
 
 -- the digits of x, highest first, none for 0; k is enough where x ≤ k
 unfoldable pub digits : ℕ → ℕ → List ℕ
@@ -52,12 +50,7 @@ lineOf a b number file offset instance =
 unfoldable pub badLineOf : ℕ → ℕ → List ℕ
 badLineOf number offset = line (dash ∷ dash ∷ decimal number ∷ decimal 3 ∷ decimal offset ∷ []) dash
 
--- b with bs put at a place, and the place after them
-pub record Wrote (b : List ℕ) (at : ℕ) (bs after : List ℕ) (r : ℕ) : Type 0 where
-  pub holds : after ≡ put b at bs
-  pub next : r ≡ at + length bs
-
--- the same of at most so many bytes, so that a caller knows the room
+-- bs are put at a place, and are at most so many, so that a caller knows the room
 pub record Laid (most : ℕ) (b : List ℕ) (at : ℕ) (bs after : List ℕ) (r : ℕ) : Type 0 where
   pub wrote : Wrote b at bs after r
   pub short : r ≤ at + most

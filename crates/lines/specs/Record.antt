@@ -21,7 +21,7 @@ passAt s p =
     part (whole 2 s p) λ b p.
     got (record { first = a; last = b }) p
 
--- the code's answer, which holds all of what was read, as that
+-- the code's answer, as what was read
 abbrev pub passIn : PassRead → Got Pass
 passIn (Days a b q) = got (record { first = a; last = b }) q
 passIn (NoPass n o) = bad n o

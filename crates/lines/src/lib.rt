@@ -1,10 +1,11 @@
 // A record of passplan's input read, and a line of its output laid out.
 ghost use mathlib.Core.Path.{_≡_};
-ghost use mathlib.Core.List.{List, [], _∷_};
-ghost use Prim.Native.Nat.{ℕ, _+_, _*_, _<_, _≤_};
+ghost use mathlib.Core.List.{[], _∷_};
+ghost use Prim.Native.Nat.{_+_, _*_, _<_, _≤_};
 ghost use lib.ListN.{length};
+ghost use Rattle.fields.specs.Writing.{Wrote};
 ghost use Rattle.lines.specs.Record.{passAt, passIn};
-ghost use Rattle.lines.specs.Line.{decimal, hex, hexDigit, words, result, lineOf, badLineOf, Wrote, Laid};
+ghost use Rattle.lines.specs.Line.{decimal, hex, hexDigit, words, result, lineOf, badLineOf, Laid};
 use fields::Field;
 use fields::Step;
 

@@ -9,13 +9,25 @@ use borrow.Author.Tests.{eqb-true, eq-eqb}
 use lib.Dec.{eqb}
 use lib.IntN.{ℤ}
 use Rattle.fields.proofs.Tests.{and-yes, and-true, alike}
-use Rattle.instances.specs.Instance.{Entry, has, Ascending}
+use Rattle.instances.specs.Instance.{Entry, has}
+use Rattle.instances.proofs.IsInstance.{Ascending}
 use Rattle.instances.proofs.Valid.{mem-has, has-mem}
-use Rattle.model.specs.Order.{choiceOf, choiceAt, valuesOf, valuesAt, SameChoices, choicesIn, sameChoices, noLower, NoneLower, noneLower}
+use Rattle.model.specs.Satisfaction.{every}
+use Rattle.model.specs.Order.{choiceOf, choiceAt}
+use Rattle.model.proofs.Relations.{valuesOf, valuesAt, SameChoices, noLower, NoneLower}
 use Rattle.model.proofs.Lists.{every-mem, mem-every}
 use Rattle.model.proofs.Entries.{mem-entry, no-entry, Found, found, missing, lookup}
 
 -- each entry of i has its like in j
+unfoldable pub choicesIn : List Entry → List Entry → Bool
+choicesIn i j = every (λ (e : Entry). has j (e .node) && eqb (e .choice) (choiceAt j (e .node))) i
+
+unfoldable pub sameChoices : List Entry → List Entry → Bool
+sameChoices i j = choicesIn i j && choicesIn j i
+
+unfoldable pub noneLower : List Entry → List Entry → Bool
+noneLower i j = every (λ (e : Entry). noLower (e .values) (valuesAt j (e .node))) i
+
 in-like : (i j : List Entry) → choicesIn i j ≡ true → (e : Entry) → List·Memᴰ e i → (has j (e .node) ≡ true) × (e .choice ≡ choiceAt j (e .node))
 unfolding choicesIn
 in-like i j t e m =

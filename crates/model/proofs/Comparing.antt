@@ -13,14 +13,16 @@ use Rattle.schema.specs.Schema.{Node, nodeAt}
 use Rattle.schema.specs.declared.Variable.{Variable}
 use Rattle.schema.proofs.Sound.{Sound}
 use Rattle.policies.specs.Policies.{Policy}
-use Rattle.instances.specs.Instance.{Entry, root, IsInstance}
+use Rattle.instances.specs.Instance.{Entry}
 use Rattle.instances.specs.File.{valueWidth, encodeEntry}
-use Rattle.model.specs.Satisfaction.{MeetsAll, admitted, admittedFrom, choiceMeets, valuesMeet, meetsAll}
-use Rattle.model.specs.Order.{better, AsGood, asGood}
+use Rattle.instances.proofs.IsInstance.{root, IsInstance}
+use Rattle.model.specs.Satisfaction.{admitted, choiceMeets}
+use Rattle.model.specs.Order.{better, asGood}
 use Rattle.model.specs.Reconciling.{isSome}
-use Rattle.model.specs.Comparing.{Verdict, alike, first-better, second-better, neither, verdict, compared, forbiddenValue, forbiddenEntry, orNext, forbiddenFrom, forbidden}
+use Rattle.model.specs.Comparing.{verdict, compared, forbiddenValue, forbiddenEntry, orNext, forbiddenFrom, forbidden}
+use Rattle.model.proofs.Relations.{MeetsAll, AsGood, Verdict, alike, first-better, second-better, neither}
 use Rattle.model.proofs.Order.{good-iff}
-use Rattle.model.proofs.Satisfaction.{meets-iff}
+use Rattle.model.proofs.Satisfaction.{meets-iff, admittedFrom, valuesMeet, meetsAll}
 
 -- ---- the verdict
 

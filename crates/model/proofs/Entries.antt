@@ -9,14 +9,15 @@ use Prim.Native.Nat.{ℕ, _<_}
 use native.Mathlib.Omega.{arith}
 use borrow.Author.Tests.{eqb-true, eq-eqb}
 use lib.Dec.{eqb}
-use lib.ListN.{length}
 use lib.IntN.{ℤ}
 use Rattle.fields.proofs.Tests.{never}
 use Rattle.schema.specs.Schema.{Node, nodeAt}
 use Rattle.schema.proofs.Sound.{Sound}
-use Rattle.instances.specs.Instance.{Entry, elem, chooses, reaches, rightChoice, inDomains, has, Reached, root, on, Ascending, IsInstance}
-use Rattle.instances.proofs.Valid.{mem-has, has-mem, reaches-in}
-use Rattle.model.specs.Order.{entryAt, choiceOf, choiceAt, valuesOf, valuesAt}
+use Rattle.instances.specs.Instance.{Entry, elem, chooses, reaches, rightChoice, has}
+use Rattle.instances.proofs.IsInstance.{inDomains, Reached, on, Ascending, IsInstance}
+use Rattle.instances.proofs.Valid.{mem-has, has-mem}
+use Rattle.model.specs.Order.{entryAt, choiceOf, choiceAt}
+use Rattle.model.proofs.Relations.{valuesOf, valuesAt}
 use Rattle.model.proofs.Lists.{elem-head}
 
 -- ---- the entry at a node
@@ -122,10 +123,6 @@ module _ (g : List Node) (A : Sound g) (i : List Entry) (I : IsInstance g i) whe
 
   pub domains-at : {n : ℕ} → Reached g i n → inDomains (nodeAt g n .variables) (valuesAt i n) ≡ true
   domains-at r = at-node (λ n c xs. inDomains (nodeAt g n .variables) xs ≡ true) (λ e m. I .right e m .in-domains) r
-
-  pub reached-below : {n : ℕ} → Reached g i n → n < length g
-  reached-below root = A .some
-  reached-below {n} (on e r m t) = reaches-in g A e (I .right e m .right-choice) n t .1
 
   pub reach-on : {n : ℕ} (s : ℕ) → Reached g i n → elem s (reaches (nodeAt g n) (choiceAt i n)) ≡ true → Reached g i s
   reach-on s r = at-node (λ n c xs. elem s (reaches (nodeAt g n) c) ≡ true → Reached g i s) (λ e m t. on e (I .only e m) m t) r

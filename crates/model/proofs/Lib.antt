@@ -1,3 +1,5 @@
+pub mod Relations
+pub mod Lawful
 pub mod Levels
 pub mod Lists
 pub mod Successors

@@ -11,6 +11,7 @@ use lib.Dec.{eqb}
 use lib.ListN.{length, getD}
 use Rattle.fields.proofs.Tests.{and-yes, and-true, or-true, or-left, or-right, never}
 use Rattle.instances.specs.Instance.{elem}
+use Rattle.instances.proofs.Due.{elem-mem}
 use Rattle.model.specs.Satisfaction.{every}
 
 -- ---- every one of a list passes
@@ -44,14 +45,6 @@ elem-one s x h = go (elem-cons s x [] h)
     go : (s ≡ x) ⊎ (false ≡ true) → s ≡ x
     go (inl q) = q
     go (inr q) = never q
-
-elem-mem : (s : ℕ) (l : List ℕ) → elem s l ≡ true → List·Memᴰ s l
-elem-mem s [] m = never m
-elem-mem s (x ∷ l) m = go (elem-mem s l) (elem-cons s x l m)
-  where
-    go : (elem s l ≡ true → List·Memᴰ s l) → (s ≡ x) ⊎ (elem s l ≡ true) → List·Memᴰ s (x ∷ l)
-    go ih (inl q) = List·Memᴰ·head q
-    go ih (inr q) = List·Memᴰ·tail (ih q)
 
 pub every-at : (h : ℕ → Bool) (l : List ℕ) → every h l ≡ true → (s : ℕ) → elem s l ≡ true → h s ≡ true
 every-at h l t s m = every-mem h t (elem-mem s l m)

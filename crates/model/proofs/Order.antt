@@ -12,14 +12,17 @@ use lib.ListN.{length}
 use Rattle.fields.proofs.Tests.{and-yes, and-true, or-true, or-left, or-right, never, alike}
 use Rattle.schema.specs.Schema.{Node, nodeAt}
 use Rattle.schema.proofs.Sound.{Sound}
-use Rattle.instances.specs.Instance.{Entry, elem, chooses, reaches, has, Reached, root, on, IsInstance}
+use Rattle.instances.specs.Instance.{Entry, elem, chooses, reaches, has}
+use Rattle.instances.proofs.IsInstance.{Reached, root, on, IsInstance}
 use Rattle.instances.proofs.Valid.{successor-in}
+use Rattle.instances.proofs.RoundTrip.{reached-below}
 use Rattle.model.specs.Satisfaction.{every}
-use Rattle.model.specs.Order.{choiceOf, choiceAt, AtLeast, at-leaf, at-all, at-same, at-better, goodStep, good, SameChoices}
-use Rattle.model.specs.Reconciling.{Strict}
+use Rattle.model.specs.Order.{choiceOf, choiceAt, goodStep, good}
+use Rattle.model.proofs.Lawful.{Strict}
+use Rattle.model.proofs.Relations.{AtLeast, at-leaf, at-all, at-same, at-better, SameChoices}
 use Rattle.model.proofs.Lists.{elem-one, every-at, at-every, every-same}
 use Rattle.model.proofs.Levels.{descend, within-step, by-table}
-use Rattle.model.proofs.Entries.{mem-entry, no-entry, has-reached, reached-below, spread, no-choice, picks, picked}
+use Rattle.model.proofs.Entries.{mem-entry, no-entry, has-reached, spread, no-choice, picks, picked}
 
 -- ---- kinds of node
 

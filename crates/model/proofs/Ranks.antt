@@ -13,8 +13,9 @@ use Rattle.schema.specs.Schema.{Node, nodeAt}
 use Rattle.schema.proofs.Sound.{Rising, Sound}
 use Rattle.policies.specs.Policies.{Policy, rankOf}
 use Rattle.model.specs.Satisfaction.{columnOf, rank, every, allowed}
-use Rattle.model.specs.Order.{Better, decides, later, by-number, betterBy, better}
-use Rattle.model.specs.Reconciling.{Strict, Total}
+use Rattle.model.specs.Order.{betterBy, better}
+use Rattle.model.proofs.Lawful.{Strict, Total}
+use Rattle.model.proofs.Relations.{Better, decides, later, by-number}
 
 numbers : (a b : ℕ) → (a < b) ⊎ ((a ≡ b) ⊎ (b < a))
 numbers a b = go (ltb a b) refl (eqb a b) refl

@@ -14,16 +14,20 @@ use lib.IntN.{ℤ}
 use Rattle.fields.proofs.Tests.{and-yes, and-true, never}
 use Rattle.schema.specs.Schema.{Node, nodeAt}
 use Rattle.schema.proofs.Sound.{Sound}
-use Rattle.instances.specs.Instance.{Entry, elem, chooses, reaches, rightChoice, inDomains, has, Reached, root, IsInstance}
+use Rattle.instances.specs.Instance.{Entry, elem, chooses, reaches, rightChoice, has}
 use Rattle.instances.specs.Plan.{planned}
+use Rattle.instances.proofs.IsInstance.{inDomains, Reached, root, IsInstance}
 use Rattle.instances.proofs.Valid.{successor-in}
+use Rattle.instances.proofs.RoundTrip.{reached-below}
 use Rattle.instances.proofs.Planned.{Sure, planned-is, planned-mine, planned-good, planned-same}
 use Rattle.model.specs.Satisfaction.{every}
-use Rattle.model.specs.Order.{choiceAt, valuesAt, AtLeast, at-same, at-better, SameChoices, noLower, NoneLower}
-use Rattle.model.specs.Reconciling.{Best, Right, Rules, MeetsRules, isSome, taken, canStep, can, plan, reconcile, Total, IsLeast, Lawful}
+use Rattle.model.specs.Order.{choiceAt}
+use Rattle.model.specs.Reconciling.{Rules, isSome, taken, canStep, can, plan, reconcile}
+use Rattle.model.proofs.Lawful.{MeetsRules, Total, IsLeast, Lawful}
+use Rattle.model.proofs.Relations.{valuesAt, AtLeast, at-same, at-better, SameChoices, noLower, NoneLower, Best, Right}
 use Rattle.model.proofs.Lists.{elem-one, every-at, at-every, every-same}
 use Rattle.model.proofs.Levels.{descend, within-step, by-table}
-use Rattle.model.proofs.Entries.{no-entry, has-reached, at-node, domains-at, reached-below, spread, picks, picked}
+use Rattle.model.proofs.Entries.{no-entry, has-reached, at-node, domains-at, spread, picks, picked}
 use Rattle.model.proofs.Successors.{Top, IsBest, no-best, a-best, best-is, total-best, best-same}
 use Rattle.model.proofs.Order.{at-rest}
 
@@ -70,7 +74,7 @@ module _ (g : List Node) (A : Sound g) (r : Rules) where
     passes n s = r .allowed n s && can g r s
 
     left : ℕ → List ℤ → Bool
-    left n xs = inDomains (nodeAt g n .variables) xs && r .admits n xs
+    left n xs = inDomains (nodeAt g n .variables) xs && L .admits n xs
 
     record Met (n : ℕ) : Type 0 where
       values : IsLeast noLower (left n) (some (plan g r n .values))
@@ -126,7 +130,7 @@ module _ (g : List Node) (A : Sound g) (r : Rules) where
             own = own-node;
             root = record { below-count = A .some; can-be = t };
             choice = λ n k. choice n (met-of n k) (chooses (nodeAt g n)) refl;
-            values = λ n k. and-true (inDomains (nodeAt g n .variables) (plan g r n .values)) (r .admits n (plan g r n .values)) (met-of n k .values .0) .0;
+            values = λ n k. and-true (inDomains (nodeAt g n .variables) (plan g r n .values)) (L .admits n (plan g r n .values)) (met-of n k .values .0) .0;
             on = λ n s k e. next n s (met-of n k) (chooses (nodeAt g n)) refl e;
           }
         where
@@ -162,7 +166,7 @@ module _ (g : List Node) (A : Sound g) (r : Rules) where
           at-node g A answer answer-instance (λ n c xs. (c ≡ plan g r n .choice) × (xs ≡ plan g r n .values))
           (λ e m. let q = answer-entry e m .0 in (ap (λ (d : Entry). d .choice) q, ap (λ (d : Entry). d .values) q)) k
 
-      answer-meets : MeetsRules g r answer
+      answer-meets : MeetsRules g r (L .admits) answer
       unfolding passes left
       answer-meets = record { choices = λ e m w. choice e (answer-entry e m) w; values = λ e m. value e (answer-entry e m) }
         where
@@ -171,20 +175,20 @@ module _ (g : List Node) (A : Sound g) (r : Rules) where
               ap (λ (d : Entry). r .allowed (e .node) (d .choice)) (k .0)
               ∙ and-true (r .allowed (e .node) (plan g r (e .node) .choice)) (can g r (plan g r (e .node) .choice)) (met-of (e .node) (k .1) .choice w .passes) .0
 
-          value : (e : Entry) → (e ≡ plan g r (e .node)) × Good (e .node) → r .admits (e .node) (e .values) ≡ true
+          value : (e : Entry) → (e ≡ plan g r (e .node)) × Good (e .node) → L .admits (e .node) (e .values) ≡ true
           value e k =
-              ap (λ (d : Entry). r .admits (e .node) (d .values)) (k .0)
-              ∙ and-true (inDomains (nodeAt g (e .node) .variables) (plan g r (e .node) .values)) (r .admits (e .node) (plan g r (e .node) .values)) (met-of (e .node) (k .1) .values .0) .1
+              ap (λ (d : Entry). L .admits (e .node) (d .values)) (k .0)
+              ∙ and-true (inDomains (nodeAt g (e .node) .variables) (plan g r (e .node) .values)) (L .admits (e .node) (plan g r (e .node) .values)) (met-of (e .node) (k .1) .values .0) .1
 
     -- ---- every node that a rival reaches can be met
 
-    module _ (j : List Entry) (J : IsInstance g j) (M : MeetsRules g r j) where
+    module _ (j : List Entry) (J : IsInstance g j) (M : MeetsRules g r (L .admits) j) where
       rival-allowed : {n : ℕ} → Reached g j n → chooses (nodeAt g n) ≡ true → r .allowed n (choiceAt j n) ≡ true
       rival-allowed k = at-node g A j J (λ n c xs. chooses (nodeAt g n) ≡ true → r .allowed n c ≡ true) (M .choices) k
 
       rival-left : {n : ℕ} → Reached g j n → left n (valuesAt j n) ≡ true
       unfolding left
-      rival-left {n} k = and-yes (domains-at g A j J k) (at-node g A j J (λ n c xs. r .admits n xs ≡ true) (M .values) k)
+      rival-left {n} k = and-yes (domains-at g A j J k) (at-node g A j J (λ n c xs. L .admits n xs ≡ true) (M .values) k)
 
       rival-can : {n : ℕ} → Reached g j n → can g r n ≡ true
       unfolding canStep left passes
@@ -248,18 +252,18 @@ module _ (g : List Node) (A : Sound g) (r : Rules) where
 
     -- ---- the theorem
 
-    pub lawful-right : ((n : ℕ) → Total (r .better n)) → Right g (MeetsRules g r) (r .better) (reconcile g r)
+    pub lawful-right : ((n : ℕ) → Total (r .better n)) → Right g (MeetsRules g r (L .admits)) (r .better) (reconcile g r)
     unfolding reconcile answer
     lawful-right Q = go (can g r 0) refl
       where
-        go : (b : Bool) → can g r 0 ≡ b → Right g (MeetsRules g r) (r .better) (cond b (some (planned g (plan g r))) none)
+        go : (b : Bool) → can g r 0 ≡ b → Right g (MeetsRules g r (L .admits)) (r .better) (cond b (some (planned g (plan g r))) none)
         go true t =
             record {
               refused = (λ e. absurd (let z : _≡_ {A = ℕ} 0 1 = cc in omega arith), λ f. absurd (f answer (answer-instance t) (answer-meets t)));
-              given = λ i e. subst (Best g (MeetsRules g r) (r .better)) (Option·some-injective answer i e) answer-best;
+              given = λ i e. subst (Best g (MeetsRules g r (L .admits)) (r .better)) (Option·some-injective answer i e) answer-best;
             }
           where
-            answer-best : Best g (MeetsRules g r) (r .better) answer
+            answer-best : Best g (MeetsRules g r (L .admits)) (r .better) answer
             answer-best = record { is-instance = answer-instance t; meets = answer-meets t; as-good = λ j J M. as-good j J M t Q; lowest = λ j J M. lowest j J M t }
         go false t =
             record {

@@ -15,21 +15,23 @@ use Rattle.schema.specs.declared.Variable.{Variable}
 use Rattle.schema.proofs.Sound.{Sound}
 use Rattle.policies.specs.Policies.{Policy}
 use Rattle.policies.specs.Pass.{forced}
-use Rattle.instances.specs.Instance.{Entry, inDomain, inDomains}
-use Rattle.model.specs.Satisfaction.{MeetsAll, MeetsInForce}
-use Rattle.model.specs.Order.{better, entryAt, choiceOf, valuesOf, valuesAt, SameChoices, noLower}
-use Rattle.model.specs.Reconciling.{Best, Right, reconcile, Strict, Lawful, rulesOf, reconciled}
+use Rattle.instances.specs.Instance.{Entry, inDomain}
+use Rattle.instances.proofs.IsInstance.{inDomains}
+use Rattle.model.specs.Order.{better, entryAt, choiceOf}
+use Rattle.model.specs.Reconciling.{reconcile, rulesOf, reconciled}
+use Rattle.model.proofs.Lawful.{Strict, Lawful}
+use Rattle.model.proofs.Relations.{MeetsAll, MeetsInForce, valuesOf, valuesAt, SameChoices, noLower, Best, Right}
 use Rattle.model.proofs.Entries.{entry-has, Found, found, missing, lookup, entries-ext, has-reached, domains-at}
 use Rattle.model.proofs.Ranks.{better-strict, better-total}
 use Rattle.model.proofs.Values.{least-of}
 use Rattle.model.proofs.Order.{alike-same}
 use Rattle.model.proofs.Reconciler.{lawful-right}
-use Rattle.model.proofs.Satisfaction.{rules-iff, in-force-iff}
+use Rattle.model.proofs.Satisfaction.{admittedAt, rules-iff, in-force-iff}
 
 -- ---- the policies' answer
 
 pub lawful : (g : List Node) → Sound g → (ps : List Policy) → Lawful g (rulesOf g ps)
-lawful g A ps = record { strict = better-strict g ps; least-is = least-of g A ps }
+lawful g A ps = record { strict = better-strict g ps; admits = admittedAt g ps; least-is = least-of g A ps }
 
 -- what is asked may be said in other words
 right-as : (g : List Node) {M N : List Entry → Type 0} (better : ℕ → ℕ → ℕ → Bool) (o : Option (List Entry)) → ((i : List Entry) → M i ↔ N i) → Right g M better o → Right g N better o
@@ -49,7 +51,7 @@ right-as g {M} {N} better o f w =
         }
 
 pub right : (g : List Node) → Sound g → (ps : List Policy) → Right g (MeetsAll g ps) (better g ps) (reconciled g ps)
-unfolding reconciled
+unfolding reconciled lawful
 right g A ps = right-as g (better g ps) (reconcile g (rulesOf g ps)) (rules-iff g ps) (lawful-right g A (rulesOf g ps) (lawful g A ps) (better-total g ps))
 
 -- of a pass: 'every policy in force'

@@ -18,8 +18,10 @@ use Rattle.schema.specs.declared.Variable.{Variable}
 use Rattle.policies.specs.Policies.{Policy}
 use Rattle.policies.specs.Pass.{inForce, forced}
 use Rattle.instances.specs.Instance.{Entry, chooses}
-use Rattle.model.specs.Satisfaction.{rank, conditionAt, meets, MeetsPolicy, MeetsAll, MeetsInForce, allowed, admitted, admittedFrom, choiceMeets, valuesMeet, meetsAll}
-use Rattle.model.specs.Reconciling.{MeetsRules, rulesOf}
+use Rattle.model.specs.Satisfaction.{rank, conditionAt, meets, allowed, every, admitted, choiceMeets}
+use Rattle.model.specs.Reconciling.{rulesOf}
+use Rattle.model.proofs.Lawful.{MeetsRules}
+use Rattle.model.proofs.Relations.{MeetsPolicy, MeetsAll, MeetsInForce}
 use Rattle.model.proofs.Lists.{every-mem, mem-every}
 
 -- ---- what all policies say, and what each says
@@ -38,7 +40,12 @@ pub admitted-iff : (ps : List Policy) (n k : ℕ) (v : Variable) (x : ℤ) → (
 unfolding admitted
 admitted-iff ps n k v x = (λ t p m. every-mem (λ (q : Policy). meets v (conditionAt q n k) x) t m, λ f. mem-every (λ (q : Policy). meets v (conditionAt q n k) x) ps f)
 
--- each value at its place
+-- each value at its place: every policy admits the values of variable k and those after it
+unfoldable pub admittedFrom : List Policy → ℕ → ℕ → List Variable → List ℤ → Bool
+admittedFrom ps n k [] xs = true
+admittedFrom ps n k (v ∷ vs) [] = true
+admittedFrom ps n k (v ∷ vs) (x ∷ xs) = admitted ps n k v x && admittedFrom ps n (k + 1) vs xs
+
 module _ (ps : List Policy) (n : ℕ) where
   abbrev Each : ℕ → List Variable → List ℤ → Type 0
   Each k vs xs = (d : ℕ) (v : Variable) (x : ℤ) → getElem? vs d ≡ some v → getElem? xs d ≡ some x → admitted ps n (k + d) v x ≡ true
@@ -66,17 +73,20 @@ module _ (ps : List Policy) (n : ℕ) where
 
 -- ---- the rules taken together
 
-pub rules-iff : (g : List Node) (ps : List Policy) (i : List Entry) → MeetsRules g (rulesOf g ps) i ↔ MeetsAll g ps i
+abbrev pub admittedAt : List Node → List Policy → ℕ → List ℤ → Bool
+admittedAt g ps n xs = admittedFrom ps n 0 (nodeAt g n .variables) xs
+
+pub rules-iff : (g : List Node) (ps : List Policy) (i : List Entry) → MeetsRules g (rulesOf g ps) (admittedAt g ps) i ↔ MeetsAll g ps i
 rules-iff g ps i = (there, back)
   where
-    there : MeetsRules g (rulesOf g ps) i → MeetsAll g ps i
+    there : MeetsRules g (rulesOf g ps) (admittedAt g ps) i → MeetsAll g ps i
     there M p m =
         record {
           choices = λ e l w. allowed-iff g ps (e .node) (e .choice) .0 (M .choices e l w) p m;
           values = λ e l k v x a b. rw zero-add at (admitted-iff ps (e .node) (0 + k) v x .0 (from-each ps (e .node) 0 (nodeAt g (e .node) .variables) (e .values) (M .values e l) k v x a b) p m);
         }
 
-    back : MeetsAll g ps i → MeetsRules g (rulesOf g ps) i
+    back : MeetsAll g ps i → MeetsRules g (rulesOf g ps) (admittedAt g ps) i
     back f =
         record {
           choices = λ e l w. allowed-iff g ps (e .node) (e .choice) .1 (λ p m. f p m .choices e l w);
@@ -85,6 +95,12 @@ rules-iff g ps i = (there, back)
         }
 
 -- ---- the test
+
+unfoldable pub valuesMeet : List Node → List Policy → Entry → Bool
+valuesMeet g ps e = admittedAt g ps (e .node) (e .values)
+
+unfoldable pub meetsAll : List Node → List Policy → List Entry → Bool
+meetsAll g ps i = every (λ (e : Entry). choiceMeets g ps e && valuesMeet g ps e) i
 
 choice-iff : (g : List Node) (ps : List Policy) (e : Entry) → (choiceMeets g ps e ≡ true) ↔ (chooses (nodeAt g (e .node)) ≡ true → allowed g ps (e .node) (e .choice) ≡ true)
 unfolding choiceMeets
@@ -104,10 +120,10 @@ meets-iff g ps i = (λ t. rules-iff g ps i .0 (there t), λ M. back (rules-iff g
     parts : meetsAll g ps i ≡ true → (e : Entry) → List·Memᴰ e i → (choiceMeets g ps e ≡ true) × (valuesMeet g ps e ≡ true)
     parts t e m = and-true (choiceMeets g ps e) (valuesMeet g ps e) (every-mem ok t m)
 
-    there : meetsAll g ps i ≡ true → MeetsRules g (rulesOf g ps) i
+    there : meetsAll g ps i ≡ true → MeetsRules g (rulesOf g ps) (admittedAt g ps) i
     there t = record { choices = λ e m. choice-iff g ps e .0 (parts t e m .0); values = λ e m. parts t e m .1 }
 
-    back : MeetsRules g (rulesOf g ps) i → meetsAll g ps i ≡ true
+    back : MeetsRules g (rulesOf g ps) (admittedAt g ps) i → meetsAll g ps i ≡ true
     back M = mem-every ok i (λ e m. and-yes (choice-iff g ps e .1 (M .choices e m)) (M .values e m))
 
 -- one policy is a list of one

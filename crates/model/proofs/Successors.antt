@@ -9,7 +9,8 @@ use Prim.Native.Nat.{ℕ, _<_}
 use lib.ListN.{length, getD}
 use Rattle.fields.proofs.Tests.{and-yes, and-true, or-true, or-left, or-right, never, not-yes, not-not}
 use Rattle.instances.specs.Instance.{elem}
-use Rattle.model.specs.Reconciling.{Strict, Total, beaten, firstOf, best}
+use Rattle.model.specs.Reconciling.{beaten, firstOf, best}
+use Rattle.model.proofs.Lawful.{Strict, Total}
 use Rattle.model.proofs.Lists.{elem-head, elem-tail, elem-cons, Place, at-elem, elem-at}
 
 -- ---- the first that passes

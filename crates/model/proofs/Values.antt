@@ -26,11 +26,14 @@ use Rattle.schema.specs.declared.Variable.{Variable}
 use Rattle.schema.specs.declared.Variable.the-variants.{Number, Listed}
 use Rattle.schema.proofs.Sound.{SoundVariable, SoundVariables, Sound}
 use Rattle.policies.specs.Policies.{Condition, range, mask, Policy}
-use Rattle.instances.specs.Instance.{inDomain, inDomains}
+use Rattle.instances.specs.Instance.{inDomain}
+use Rattle.instances.proofs.IsInstance.{inDomains}
 use Rattle.instances.proofs.Valid.{sound-variables}
-use Rattle.model.specs.Satisfaction.{conditionAt, admits, meets, every, admitted, admittedFrom}
-use Rattle.model.specs.Order.{noLower}
-use Rattle.model.specs.Reconciling.{IsLeast, own, both, restrict, restrictAll, combinedFrom, combined, isSome, least, withFirst, leastEach}
+use Rattle.model.specs.Satisfaction.{conditionAt, admits, meets, every, admitted}
+use Rattle.model.specs.Reconciling.{own, both, restrict, restrictAll, combinedFrom, combined, isSome, least, withFirst, leastEach}
+use Rattle.model.proofs.Satisfaction.{admittedFrom, admittedAt}
+use Rattle.model.proofs.Lawful.{IsLeast}
+use Rattle.model.proofs.Relations.{noLower}
 
 -- ---- one variable: what its combined condition admits
 
@@ -207,7 +210,7 @@ module _ (ps : List Policy) (n : ℕ) where
 
 -- 'the least values that schema and all conditions admit'
 pub least-of : (g : List Node) → Sound g → (ps : List Policy) (n : ℕ)
-    → IsLeast noLower (λ (xs : List ℤ). inDomains (nodeAt g n .variables) xs && admittedFrom ps n 0 (nodeAt g n .variables) xs) (leastEach (combined g ps n))
+    → IsLeast noLower (λ (xs : List ℤ). inDomains (nodeAt g n .variables) xs && admittedAt g ps n xs) (leastEach (combined g ps n))
 unfolding combined left-each
 least-of g A ps n = least-each ps n 0 (nodeAt g n .variables) (sound-variables g A n)
 

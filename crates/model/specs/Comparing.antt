@@ -15,21 +15,15 @@ use Rattle.model.specs.Order.{asGood}
 
 -- ---- the verdict
 
--- what a verdict says, where P is 'the first is at least as good as the second' and Q the reverse
-pub data Verdict (P Q : Type 0) : ℕ → Type 0 where
-  -- '"alike" means at least as good each way'
-  alike : P → Q → Verdict P Q 0
-  -- '"first better" means at least as good and not the reverse'
-  first-better : P → (Q → ⊥) → Verdict P Q 1
-  second-better : (P → ⊥) → Q → Verdict P Q 2
-  neither : (P → ⊥) → (Q → ⊥) → Verdict P Q 3
-
+-- whether the first is at least as good as the second, and the reverse: '0 alike, 1 first better, 2 second better, 3 neither';
+-- '"first better" means at least as good and not the reverse; "alike" means at least as good each way'
 abbrev pub verdict : Bool → Bool → ℕ
 verdict true true = 0
 verdict true false = 1
 verdict false true = 2
 verdict false false = 3
 
+-- instances i and j, where ps are the policies in force
 unfoldable pub compared : List Node → List Policy → List Entry → List Entry → ℕ
 compared g ps i j = verdict (asGood g ps i j) (asGood g ps j i)
 
@@ -51,6 +45,7 @@ abbrev pub orNext : Option ℕ → Option ℕ → Option ℕ
 orNext none o = o
 orNext (some x) o = some x
 
+-- in entries that stand from o on
 unfoldable pub forbiddenFrom : List Node → List Policy → List Entry → ℕ → Option ℕ
 forbiddenFrom g ps [] o = none
 forbiddenFrom g ps (e ∷ es) o = orNext (forbiddenEntry g ps e o) (forbiddenFrom g ps es (o + length (encodeEntry g e)))

@@ -1,1 +1,1 @@
-// What is right.
+// Meeting policies, the order and what reconciling gives, on decoded data; no code.

@@ -3,14 +3,14 @@
 use mathlib.Core.Path.{_≡_, refl, ap, sym, _∙_}
 use mathlib.Core.Bool.{Bool, true, false, cond, not, _&&_, _||_}
 use mathlib.Core.List.{List, [], _∷_}
-use Prim.Native.Nat.{ℕ, zero, suc, _+_, _-_, _*_, _≤_, _<_}
+use Prim.Native.Nat.{ℕ, suc, _+_, _-_, _*_, _≤_, _<_}
 use native.Mathlib.Omega.{arith}
 use borrow.Author.Tests.{lt-ltb, le-ltb, eq-eqb, ne-eqb, le-leb, lt-leb}
 use lib.Dec.{eqb, leb, ltb}
-use lib.ListN.{length, getD}
+use lib.ListN.{getD}
 use Rattle.model.specs.Satisfaction.{every}
 use Rattle.model.specs.Order.{betterBy}
-use Rattle.order.specs.Order.{countUp, rankIn, betterIn, allowedIn, over}
+use Rattle.order.specs.Order.{countUp, rankIn, betterIn, allowedIn, over, ahead}
 
 pub next-row : (rows j : ℕ) → j < rows → countUp (rows - j) j ≡ j ∷ countUp (rows - (j + 1)) (j + 1)
 unfolding countUp
@@ -89,3 +89,16 @@ module _ (t : List ℕ) (rows k x : ℕ) where
   pub over-none : {a : Bool} → 8 ≤ x → a ≡ allowedIn t rows k → a ≡ true → k ≡ over t rows k x
   unfolding over
   over-none h g i = rw (sym g ∙ i, le-leb 8 x h)
+
+  -- by the rows' order alone
+  pub ahead-new : {b : Bool} → x < 8 → b ≡ betterIn t rows k x → b ≡ true → k ≡ ahead t rows k x
+  unfolding ahead
+  ahead-new h e f = rw (lt-leb 8 x h, sym e ∙ f)
+
+  pub ahead-worse : {b : Bool} → x < 8 → b ≡ betterIn t rows k x → b ≡ false → x ≡ ahead t rows k x
+  unfolding ahead
+  ahead-worse h e f = rw (lt-leb 8 x h, sym e ∙ f)
+
+  pub ahead-none : 8 ≤ x → k ≡ ahead t rows k x
+  unfolding ahead
+  ahead-none h = rw (le-leb 8 x h)

@@ -1,7 +1,7 @@
 -- Which successor of a node comes first, from their ranks alone (01, 'The order').
-use Prim.Native.Nat.{ℕ, zero, suc, _+_, _*_, _≤_}
+use Prim.Native.Nat.{ℕ, zero, suc, _+_, _*_, _≤_, _<_}
 use mathlib.Core.Path.{_≡_}
-use mathlib.Core.Bool.{Bool, true, false, cond, not, _&&_, _||_}
+use mathlib.Core.Bool.{Bool, true, cond, not, _&&_, _||_}
 use mathlib.Core.List.{List, [], _∷_}
 use mathlib.Core.Option.{Option·getD}
 use lib.ListN.{getD}
@@ -35,6 +35,7 @@ inSet set k = eqb (getD set k 0) 1
 unfoldable pub firstColumn : List ℕ → ℕ → List ℕ → ℕ → ℕ
 firstColumn t rows set k = Option·getD (best (λ c. inSet set c && allowedIn t rows c) (betterIn t rows) (countUp k 0)) 8
 
+-- r is that column
 pub record Picked (t : List ℕ) (rows : ℕ) (set : List ℕ) (k r : ℕ) : Type 0 where
   pub is : r ≡ firstColumn t rows set k
   pub most : r ≤ 8
@@ -42,3 +43,15 @@ pub record Picked (t : List ℕ) (rows : ℕ) (set : List ℕ) (k r : ℕ) : Typ
 -- column k in place of x, 8 for none, where no row forbids k and it is better
 unfoldable pub over : List ℕ → ℕ → ℕ → ℕ → ℕ
 over t rows k x = cond (allowedIn t rows k && (leb 8 x || betterIn t rows k x)) k x
+
+-- column k in place of x, 8 for none, where it is better
+unfoldable pub ahead : List ℕ → ℕ → ℕ → ℕ → ℕ
+ahead t rows k x = cond (leb 8 x || betterIn t rows k x) k x
+
+-- r is of the first k columns the one that comes first in the set, whether a row forbids it or not; 8 for none
+pub record Leads (t : List ℕ) (rows : ℕ) (set : List ℕ) (k r : ℕ) : Type 0 where
+  pub most : r ≤ 8
+  pub none-in : 8 ≤ r → (c : ℕ) → c < k → inSet set c ≡ true → ⊥
+  pub below : r < 8 → r < k
+  pub in-set : r < 8 → inSet set r ≡ true
+  pub unbeaten : r < 8 → (c : ℕ) → c < k → inSet set c ≡ true → betterIn t rows c r ≡ true → ⊥

@@ -1,8 +1,7 @@
 // What picks among a node's successors: it takes their ranks and the set of those that can be met, and no bytes.
 ghost use mathlib.Core.Path.{_≡_};
-ghost use Prim.Native.Nat.{ℕ, _+_, _*_, _<_, _≤_};
-ghost use lib.ListN.{length, getD};
-ghost use Rattle.order.specs.Order.{betterIn, allowedIn, over, Picked};
+ghost use Prim.Native.Nat.{_+_, _*_, _<_, _≤_};
+ghost use Rattle.order.specs.Order.{betterIn, allowedIn, over, ahead, Picked, Leads};
 
 // Whether column p is better than column q.
 fn is_better(ranks: &[u8; 128], rows: usize, p: usize, q: usize) -> bool
@@ -64,8 +63,8 @@ fn better_of(ranks: &[u8; 128], rows: usize, k: usize, x: usize) -> usize
     x
 }
 
-// The column that comes first among those in the set that no row forbids, 8 if there is none.
-pub fn pick(ranks: &[u8; 128], rows: usize, columns: usize, set: &[u8; 8]) -> usize
+// The column that comes first among those in the set that no row forbids, 8 if there is none: each is held to the rows.
+fn pick_allowed(ranks: &[u8; 128], rows: usize, columns: usize, set: &[u8; 8]) -> usize
     requires { ⌜ rows ≤ 16 ⌝ }
     requires { ⌜ columns ≤ 8 ⌝ }
     ensures { λ r. ⌜ Picked (now (ranks .entry)) rows (now (set .entry)) columns r ⌝ }
@@ -79,6 +78,58 @@ pub fn pick(ranks: &[u8; 128], rows: usize, columns: usize, set: &[u8; 8]) -> us
         } else {
             k += 1;
         }
+    }
+    x
+}
+
+// Column k in place of x, which is 8 for none, where k is better.
+fn leader(ranks: &[u8; 128], rows: usize, k: usize, x: usize) -> usize
+    requires { ⌜ rows ≤ 16 ⌝ }
+    requires { ⌜ k < 8 ⌝ }
+    requires { ⌜ x ≤ 8 ⌝ }
+    ensures { λ r. ⌜ r ≡ ahead (now (ranks .entry)) rows k x ⌝ }
+{
+    if x < 8 {
+        if is_better(ranks, rows, k, x) {
+            return k;
+        }
+        return x;
+    }
+    k
+}
+
+// The column that comes first in the set, whether a row forbids it or not, 8 if there is none.
+fn lead(ranks: &[u8; 128], rows: usize, columns: usize, set: &[u8; 8]) -> usize
+    requires { ⌜ rows ≤ 16 ⌝ }
+    requires { ⌜ columns ≤ 8 ⌝ }
+    ensures { λ r. ⌜ Leads (now (ranks .entry)) rows (now (set .entry)) columns r ⌝ }
+{
+    let mut x: usize = 8;
+    let mut k: usize = 0;
+    while k < columns {
+        if set[k] == 1 {
+            x = leader(ranks, rows, k, x);
+            k += 1;
+        } else {
+            k += 1;
+        }
+    }
+    x
+}
+
+// The column that comes first among those in the set that no row forbids, 8 if there is none: as a rule the first of the
+// set, which is then the only one held to the rows.
+pub fn pick(ranks: &[u8; 128], rows: usize, columns: usize, set: &[u8; 8]) -> usize
+    requires { ⌜ rows ≤ 16 ⌝ }
+    requires { ⌜ columns ≤ 8 ⌝ }
+    ensures { λ r. ⌜ Picked (now (ranks .entry)) rows (now (set .entry)) columns r ⌝ }
+{
+    let x = lead(ranks, rows, columns, set);
+    if x < 8 {
+        if is_allowed(ranks, rows, x) {
+            return x;
+        }
+        return pick_allowed(ranks, rows, columns, set);
     }
     x
 }

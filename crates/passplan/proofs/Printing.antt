@@ -2,13 +2,13 @@
 -- Rests on the laws of `put`, of a PS record and of the calls' outcomes.
 use mathlib.Core.Path.{_≡_, refl, ap, sym, subst, _∙_}
 use mathlib.Core.Bool.{Bool, true, false, cond}
-use mathlib.Core.List.{List, [], _∷_, _++_}
+use mathlib.Core.List.{List, [], _++_}
 use mathlib.Core.Option.{Option, none, some}
 use Prim.Native.Nat.{ℕ, zero, suc, _+_, _*_, _-_, _≤_, _<_}
 use native.Mathlib.Omega.{arith}
 use lib.ListN.{length, take, drop, replicate, length-append, length-drop}
 use lib.Seq.{length-take-le}
-use lib.Dec.{T, leb, ltb, leb→le}
+use lib.Dec.{T, leb, leb→le}
 use borrow.Author.Tests.{lt-ltb, le-ltb}
 use Rattle.fields.specs.Reading.{Got, got, bad}
 use Rattle.fields.specs.Writing.{put}
@@ -24,7 +24,7 @@ use Rattle.instances.specs.File.{encode}
 use Rattle.model.specs.Reconciling.{reconciled}
 use Rattle.calls.specs.Calls.{given, underSchema, reconciling}
 use Rattle.lines.specs.Record.{Pass, passAt, passIn}
-use Rattle.lines.specs.Line.{lineOf, badLineOf, Wrote, Laid}
+use Rattle.lines.specs.Line.{lineOf, badLineOf, Laid}
 use Rattle.lines.specs.declared.PassRead.{PassRead}
 use Rattle.lines.specs.declared.PassRead.the-variants.{Days, NoPass}
 use Rattle.lines.proofs.Record.{pass-taken, no-pass-stops}

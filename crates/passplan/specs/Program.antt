@@ -2,7 +2,7 @@
 use Prim.Native.Nat.{ℕ, zero, suc, _+_, _*_}
 use mathlib.Core.Path.{_≡_}
 use mathlib.Core.Bool.{Bool, true, false, cond}
-use mathlib.Core.List.{List, [], _∷_, _++_}
+use mathlib.Core.List.{List, [], _++_}
 use lib.ListN.{length, take, replicate}
 use lib.Dec.{ltb}
 use Rattle.fields.specs.Reading.{Got, got, bad}
@@ -44,7 +44,7 @@ unfoldable pub lastAt : List ℕ → ℕ → ℕ → Bool
 lastAt s zero at = false
 lastAt s (suc k) at = cond (ltb at (length s)) (cond (ends (passAt s at)) true (lastAt s k (at + 6))) false
 
--- the line of the record at a place is put
+-- the line of the record at a place is put; it has at most 2,630 bytes, two for each of 1,283 and 64 more
 pub record Answered (f p : List ℕ) (from : ℕ) (s : List ℕ) (at : ℕ) (b : List ℕ) (to : ℕ) (after : List ℕ) (r : Place) : Type 0 where
   pub laid : Laid 2630 b to (lineFor f p from (passAt s at)) after (r .end)
   pub last : r .last ≡ ends (passAt s at)

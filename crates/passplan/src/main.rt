@@ -3,7 +3,7 @@ use libc::STDIN_FILENO;
 use libc::STDOUT_FILENO;
 use lines::PassRead;
 ghost use mathlib.Core.Path.{_≡_};
-ghost use Prim.Native.Nat.{ℕ, _+_, _*_, _<_, _≤_};
+ghost use Prim.Native.Nat.{_+_, _*_, _<_, _≤_};
 ghost use lib.ListN.{length};
 ghost use Rattle.io.specs.Counts.{Counts};
 ghost use Rattle.lines.specs.Line.{Laid};

@@ -3,25 +3,42 @@
 use mathlib.Core.Path.{_≡_, refl, ap, sym, _∙_}
 use mathlib.Core.Bool.{_&&_}
 use mathlib.Core.List.{List}
-use Prim.Native.Nat.{ℕ, _+_, _≤_, _<_}
+use Prim.Native.Nat.{ℕ, _+_, _*_, _≤_, _<_}
 use native.Mathlib.Omega.{arith}
 use borrow.Author.Tests.{leb-true}
-use lib.ListN.{length, getD, drop, List·getD-append}
+use lib.ListN.{length, getD, drop, replicate, length-replicate, List·getD-append}
 use lib.Dec.{leb}
 use Rattle.fields.specs.Reading.{Got, got, bad}
 use Rattle.fields.specs.Writing.{put}
 use Rattle.fields.proofs.Back.{chosen}
 use Rattle.fields.proofs.Tests.{and-true}
 use Rattle.schema.specs.Schema.{schemaOf}
+use Rattle.schema.specs.Table.{AtMost}
 use Rattle.policies.specs.Policies.{Policy, policies, policiesIn, policiesOf, policyAt}
 use Rattle.policies.specs.Pass.{pass, forced, positions, Listing}
-use Rattle.policies.specs.Index.{Indexed, PolicyIn, policyOf}
+use Rattle.policies.specs.Index.{Indexed, PolicyIn, IndexRoom, policyOf}
 use Rattle.policies.specs.Answers.{policiesRead, Told}
 use Rattle.policies.specs.declared.PoliciesRead.{PoliciesRead}
 use Rattle.policies.specs.declared.PoliciesRead.the-variants.{Policies, Refused}
+use Rattle.policies.proofs.Nodes.{nodes-few}
 use Rattle.policies.proofs.Pass.{positions-of, lists-at}
 
 -- ---- the file
+
+-- room for the index: zeros, enough of them for the nodes
+index-room : (schema : List ℕ) (m : ℕ) → 16 + 16 * length (schemaOf schema) ≤ m → IndexRoom schema (replicate m 0)
+index-room schema m h =
+    let l = length-replicate {A = ℕ} m 0 in
+    record { blank = ap (λ (i : ℕ). replicate i 0) (sym l); long = omega (arith, l) }
+
+pub index-64 : (schema : List ℕ) → IndexRoom schema (replicate 1040 0)
+index-64 schema = index-room schema 1040 (omega (arith, nodes-few schema))
+
+pub index-4 : (schema : List ℕ) {count : ℕ} → AtMost 64 (length (schemaOf schema)) count → count ≤ 4 → IndexRoom schema (replicate 80 0)
+index-4 schema e h = index-room schema 80 (omega (arith, e .is))
+
+pub index-16 : (schema : List ℕ) {count : ℕ} → AtMost 64 (length (schemaOf schema)) count → count ≤ 16 → IndexRoom schema (replicate 272 0)
+index-16 schema e h = index-room schema 272 (omega (arith, e .is))
 
 read-count : (r : Got (List Policy)) {n : ℕ} → Policies n ≡ policiesRead r → (q : ℕ) × (r ≡ got (policiesIn r) q) × (n ≡ length (policiesIn r))
 read-count (got ps q) e = (q, refl, (cc))

@@ -1,5 +1,5 @@
 -- A PN whose bytes are all there and whose masks fit is read to its end: so one test of the length, and of each mask, will do.
--- Rests on the definitions of the readings, and on schema's Access for a variable's type byte.
+-- Rests on the definitions of the readings, and on schema's Accepted for the number of a node's variables.
 use mathlib.Core.Path.{_≡_, refl, ap, sym, _∙_}
 use mathlib.Core.Bool.{Bool, true, false, cond, _&&_}
 use mathlib.Core.List.{List, [], _∷_}
@@ -9,7 +9,7 @@ use native.Mathlib.Nat.{add-zero}
 use native.Mathlib.Decide.{decLt}
 use borrow.Author.Tests.{leb-true, leb-false, le-leb, lt-leb, lt-ltb}
 use lib.ListN.{length, getD}
-use lib.Dec.{leb, eqb}
+use lib.Dec.{leb}
 use lib.Pow.{pow-pos, pow-mono}
 use mir.Val.{Fits}
 use mir.Syntax.{w64}
@@ -19,15 +19,13 @@ use Rattle.fields.specs.declared.Step.the-variants.{Next}
 use Rattle.fields.proofs.Reading.{whole-got}
 use Rattle.fields.proofs.Tests.{and-true, and-no, never}
 use Rattle.numbers.specs.Bits.{ones}
-use Rattle.schema.specs.Schema.{Node, schemaOf, nodeAt, noVariable, variableAt}
-use Rattle.schema.specs.Table.{NodeIn, variableWidth}
+use Rattle.schema.specs.Schema.{Node, schemaOf, nodeAt, noVariable, isNumber}
+use Rattle.schema.specs.Table.{NodeIn}
 use Rattle.schema.specs.declared.Variable.{Variable}
 use Rattle.schema.specs.declared.Variable.the-variants.{Number, Listed}
-use Rattle.schema.proofs.Access.{variable-here}
 use Rattle.schema.proofs.Accepted.{file-of, view}
-use Rattle.schema.proofs.Node.{variable-back}
 use Rattle.policies.specs.Policies.{Condition, range, mask, rankCount, ranks, condition, conditions, ruleOf}
-use Rattle.policies.specs.Body.{span, spans, offsetOf, isNumber, mostOf, bodyWidth, shapeFrom, shapeOf, Laid, noneOver, Looking}
+use Rattle.policies.specs.Body.{span, spans, offsetOf, mostOf, bodyWidth, shapeFrom, shapeOf, Laid, noneOver, Looking}
 use Rattle.policies.proofs.Nodes.{nodes-few}
 
 -- ---- the law: such a PN is read to its end
@@ -108,7 +106,7 @@ shape-looks (Listed size ∷ vs) w k f a b =
 -- the variables after those are numbers
 shape-numbers : (vs : List Variable) (w k f : ℕ) → f ≤ k → k + length vs ≤ 4 → (i : ℕ) → i < length vs → shapeFrom vs w k f % 8 ≤ k + i
     → isNumber (getD vs i noVariable) ≡ true
-unfolding shapeFrom isNumber
+unfolding shapeFrom
 shape-numbers [] w k f a b i l h = absurd (omega arith)
 shape-numbers (Number lo hi ∷ vs) w k f a b zero l h = refl
 shape-numbers (Number lo hi ∷ vs) w k f a b (suc i) l h = shape-numbers vs (w + 8) (k + 1) f (omega arith) (omega arith) i (omega arith) (omega arith)
@@ -143,7 +141,6 @@ fit-most s p (Listed size) h = go (leb size 32) refl h
     go false e h = let l : 32 ≤ size = let m = leb-false size 32 e in omega arith in let z : 2 ^ 32 ≤ 2 ^ size = pow-mono l in omega arith
 
 fit-number : (s : List ℕ) (p : ℕ) (v : Variable) → isNumber v ≡ true → Fit s p v
-unfolding isNumber
 fit-number s p (Number lo hi) e = tt
 fit-number s p (Listed size) e = never e
 
@@ -169,6 +166,9 @@ module _ (schema : List ℕ) {table : List ℕ} (t : List ℕ) (n : ℕ) (w : La
   few : 0 + length (node .variables) ≤ 4
   few = omega (arith, variables-few schema n (b .below))
 
+  pub own-place : n < length t
+  own-place = omega (arith, b .below, w .long)
+
   half-is : getD t n 0 / 8 ≡ bodyWidth node
   unfolding bodyWidth offsetOf shapeOf
   half-is = ap (λ (i : ℕ). i / 8) (w .each n (b .below) .shape) ∙ shape-half (node .variables) (rankCount node) 0 0 (omega arith) few
@@ -179,33 +179,40 @@ module _ (schema : List ℕ) {table : List ℕ} (t : List ℕ) (n : ℕ) (w : La
       let r = shape-looks (node .variables) (rankCount node) 0 0 (omega arith) few .most in
       omega (arith, ap (λ (i : ℕ). i % 8) (w .each n (b .below) .shape))
 
-  module _ (s : List ℕ) (p : ℕ) (h : p ≤ length s) (l : getD t n 0 / 8 ≤ length s - p) where
-    pub body-looking : Looking t s n (getD t n 0 % 8) p
+  module _ (s : List ℕ) (p : ℕ) {shape : ℕ} (q : shape ≡ getD t n 0) (h : p ≤ length s) (l : shape / 8 ≤ length s - p) where
+    half : shape / 8 ≡ bodyWidth node
+    half = ap (λ (i : ℕ). i / 8) q ∙ half-is
+
+    looks : shape % 8 ≤ length (node .variables)
+    looks = omega (arith, ap (λ (i : ℕ). i % 8) q, looks-few)
+
+    pub body-looking : Looking t s n (shape % 8) p
     unfolding bodyWidth offsetOf
     body-looking =
         record {
           node = omega (arith, b .below, nodes-few schema);
-          few = omega (arith, looks-few, few);
+          long = omega (arith, b .below, w .long);
+          few = omega (arith, looks, few);
           there = λ i k.
-              let o = w .each n (b .below) .at i (omega (arith, looks-few)) in
-              omega (arith, half-is, span-room (node .variables) i (omega (arith, looks-few)));
+              let o = w .each n (b .below) .at i (omega (arith, looks)) in
+              omega (arith, half, span-room (node .variables) i (omega (arith, looks)));
         }
 
-    pub body-read : {v : Bool} → v ≡ noneOver t s n p (getD t n 0 % 8) → v ≡ true → Next (p + getD t n 0 / 8) ≡ stepOf (ruleOf s node n p)
+    pub body-read : {v : Bool} → v ≡ noneOver t s n p (shape % 8) → v ≡ true → Next (p + shape / 8) ≡ stepOf (ruleOf s node n p)
     unfolding shapeOf
     body-read e z =
-        ap (λ (i : ℕ). Next (p + i)) half-is
-        ∙ body-there s node n p (omega (arith, half-is)) (λ k m. fits k m (decLt k (getD t n 0 % 8)))
+        ap (λ (i : ℕ). Next (p + i)) half
+        ∙ body-there s node n p (omega (arith, half)) (λ k m. fits k m (decLt k (shape % 8)))
       where
-        fits : (k : ℕ) → k < length (node .variables) → Dec (k < getD t n 0 % 8) → Fit s (p + offsetOf node k) (getD (node .variables) k noVariable)
+        fits : (k : ℕ) → k < length (node .variables) → Dec (k < shape % 8) → Fit s (p + offsetOf node k) (getD (node .variables) k noVariable)
         fits k m (yes y) =
-            let o = over-at t s n p (getD t n 0 % 8) (sym e ∙ z) k y in
+            let o = over-at t s n p (shape % 8) (sym e ∙ z) k y in
             let d = w .each n (b .below) in
             fit-most s (p + offsetOf node k) (getD (node .variables) k noVariable) (rw (d .at k m, d .most k m) at o)
         fits k m (no y) =
             fit-number s (p + offsetOf node k) (getD (node .variables) k noVariable)
             (shape-numbers (node .variables) (rankCount node) 0 0 (omega arith) few k m
-            (let d = ap (λ (i : ℕ). i % 8) (w .each n (b .below) .shape) in omega arith))
+            (let d = ap (λ (i : ℕ). i % 8) (q ∙ w .each n (b .below) .shape) in omega arith))
 
 -- ---- the loop over the conditions looked at, from the last: what is left equals the whole
 
@@ -245,28 +252,3 @@ pub over-done : (t s : List ℕ) (n p looks k : ℕ) → Looked t s n p looks k 
 unfolding noneOver
 over-done t s n p looks zero i h = i .left
 over-done t s n p looks (suc k) i h = absurd (omega arith)
-
--- ---- the type of a variable
-
-is-number : (v : Variable) (b : Bool) → cond b 9 2 ≡ variableWidth v → b ≡ isNumber v
-unfolding variableWidth isNumber
-is-number (Number lo hi) true e = refl
-is-number (Number lo hi) false e = absurd (omega arith)
-is-number (Listed size) true e = absurd (omega arith)
-is-number (Listed size) false e = refl
-
-wide : (v : Variable) → 0 < variableWidth v
-unfolding variableWidth
-wide (Number lo hi) = omega arith
-wide (Listed size) = omega arith
-
-module _ (s t : List ℕ) (n k : ℕ) (h : NodeIn s t n) (l : k < length (nodeAt (schemaOf s) n .variables)) where
-  pub type-inside : getD t (64 + 4 * n + k) 0 < length s
-  type-inside =
-      let r = variable-back s (getD t (64 + 4 * n + k) 0) (variable-here s t n k h l .1) in
-      omega (arith, r .end, r .inside, wide (variableAt (schemaOf s) n k))
-
-  pub type-is : eqb (getD s (getD t (64 + 4 * n + k) 0) 0) 0 ≡ isNumber (variableAt (schemaOf s) n k)
-  type-is =
-      is-number (variableAt (schemaOf s) n k) (eqb (getD s (getD t (64 + 4 * n + k) 0) 0) 0)
-      (variable-back s (getD t (64 + 4 * n + k) 0) (variable-here s t n k h l .1) .type)

@@ -1,12 +1,14 @@
 -- A policy on its own stretch and the loop over the file: what is left to read and to fill from here equals the whole.
 -- Rests on Rules, on Stands (a policy ends where its width says) and on Within (no offset wraps).
 use mathlib.Core.Path.{_≡_, refl, ap, sym, _∙_}
-use mathlib.Core.List.{List, _∷_}
+use mathlib.Core.List.{List, [], _∷_}
 use Prim.Native.Nat.{ℕ, zero, suc, _+_, _-_, _^_, _≤_, _<_}
 use native.Mathlib.Omega.{arith}
 use native.Mathlib.Nat.{zero-add}
+use native.Mathlib.Decide.{ℕ-discrete}
 use borrow.Author.Tests.{lt-ltb, le-ltb}
-use lib.ListN.{length, set, drop, take, length-drop, drop-of-length-le}
+use lib.ListN.{length, getD, set, drop, take, replicate, length-set, length-drop, length-replicate, drop-of-length-le}
+use lib.Seq.{getD-set-same, getD-set-other}
 use mir.Val.{Fits}
 use mir.Syntax.{w64}
 use Rattle.fields.specs.Reading.{Got, got, bad, part}
@@ -14,12 +16,13 @@ use Rattle.fields.specs.declared.Step.{Step}
 use Rattle.fields.specs.declared.Step.the-variants.{Next, Bad}
 use Rattle.schema.specs.Schema.{Node, schemaOf}
 use Rattle.policies.specs.Policies.{Rule, Policy, Head, rules, head, policy, onward, policiesFrom, policies, policiesOf}
-use Rattle.policies.specs.Index.{policyWidth, fillRules, fillPolicy, fillPolicies, indexOf}
-use Rattle.policies.specs.Answers.{headIn, Run, did, refused, outcome, runOf, fileOutcome, fileRun, blank, Told}
+use Rattle.policies.specs.Index.{policyWidth, fillRules, fillPolicy, fillPolicies, indexOf, IndexRoom}
+use Rattle.policies.specs.Answers.{headIn, Run, did, refused, outcome, runOf, fileOutcome, fileRun, Long, Told}
 use Rattle.policies.specs.declared.HeadRead.{HeadRead}
 use Rattle.policies.specs.declared.HeadRead.the-variants.{Found, NoHead}
 use Rattle.policies.specs.declared.PoliciesRead.{PoliciesRead}
 use Rattle.policies.specs.declared.PoliciesRead.the-variants.{Policies, Refused}
+use Rattle.policies.proofs.Index.{policy-length, policies-length}
 use Rattle.policies.proofs.Places.{rest}
 use Rattle.policies.proofs.Stands.{head-back, policy-back}
 use Rattle.policies.proofs.Within.{policy-within}
@@ -37,7 +40,7 @@ module _ (s : List ℕ) (p : ℕ) {x : Got Head} where
 -- ---- a head, then its PN
 
 rules-first : (j h : ℕ) (r : Got (List Rule)) (a l : ℕ) (t : List ℕ)
-    → runOf (fillRules j 7) r (set t (1024 + j) h) ≡ runOf (fillPolicy j h) (part r (λ xs q. got (record { first = a; last = l; rules = xs }) q)) t
+    → runOf (fillRules j 7) r (set t j h) ≡ runOf (fillPolicy j h) (part r (λ xs q. got (record { first = a; last = l; rules = xs }) q)) t
 unfolding fillPolicy part
 rules-first j h (got xs q) a l t = refl
 rules-first j h (bad n o) a l t = refl
@@ -48,17 +51,27 @@ module _ (g : List Node) (s : List ℕ) (h j : ℕ) (t : List ℕ) {f : HeadRead
   policy-headless {m} {o} e k = let z : head (drop h s) ≡ bad m o = e ∙ ap headIn k in rw z
 
   pub policy-rules : {a l n q : ℕ} {Y : Run} → head (drop h s) ≡ headIn f → f ≡ Found a l n q
-      → Y ≡ runOf (fillRules j q) (rules g (take (length s - h) (drop h s)) n 0 q) (set t (1024 + j) h) → Y ≡ runOf (fillPolicy j h) (policy g (drop h s)) t
+      → Y ≡ runOf (fillRules j q) (rules g (take (length s - h) (drop h s)) n 0 q) (set t j h) → Y ≡ runOf (fillPolicy j h) (policy g (drop h s)) t
   unfolding policy part
   policy-rules {a} {l} {n} {q} e k y =
       let z : head (drop h s) ≡ got (record { first = a; last = l; count = n }) q = e ∙ ap headIn k in
       let i = head-back (drop h s) z .next in
       rw z
-      (y ∙ ap (λ (b : List ℕ). runOf (fillRules j q) (rules g b n 0 q) (set t (1024 + j) h)) (rest s h)
-      ∙ ap (λ (p : ℕ). runOf (fillRules j p) (rules g (drop h s) n 0 q) (set t (1024 + j) h)) i
+      (y ∙ ap (λ (b : List ℕ). runOf (fillRules j q) (rules g b n 0 q) (set t j h)) (rest s h)
+      ∙ ap (λ (p : ℕ). runOf (fillRules j p) (rules g (drop h s) n 0 q) (set t j h)) i
       ∙ rules-first j h (rules g (drop h s) n 0 q) a l t)
 
 pub ruleset of-policy = (policy-headless, policy-rules)
+
+-- its head's place in the index
+pub head-room : (schema t : List ℕ) (j : ℕ) → Long schema t → j < 16 → j < length t
+head-room schema t j w h = omega (arith, w .long)
+
+pub head-same : (t u : List ℕ) (j h : ℕ) → length u ≡ length (set t j h) → length u ≡ length t
+head-same t u j h e = e ∙ length-set t j h
+
+pub long-set : (schema t : List ℕ) (j h : ℕ) → Long schema t → Long schema (set t j h)
+long-set schema t j h w = record { long = omega (arith, w .long, length-set t j h) }
 
 -- ---- the file
 
@@ -81,13 +94,14 @@ not-run f (got a p) t u {m = m} {o} e h =
 not-run f (bad n p) t u {m = m} {o} e h = let z : refused m o ≡ refused n p = sym (ap (λ (x : Step). outcome x u) h) ∙ e in cc
 
 -- the policies from the j-th on, at p
-pub record Reading (g : List Node) (s : List ℕ) (X : Run) (j p : ℕ) (t : List ℕ) : Type 0 where
+pub record Reading (g : List Node) (s t₀ : List ℕ) (X : Run) (j p : ℕ) (t : List ℕ) : Type 0 where
   pub upto : j ≤ 16
+  pub same : length t ≡ length t₀
   pub left : fileRun j p (policiesFrom g s (16 - j) p) t ≡ X
 
-pub file-start : (g : List Node) (s t : List ℕ) → Reading g s (fileRun 0 0 (policies g s) t) 0 0 t
+pub file-start : (g : List Node) (s t : List ℕ) → Reading g s t (fileRun 0 0 (policies g s) t) 0 0 t
 unfolding policies
-file-start g s t = record { upto = omega arith; left = refl }
+file-start g s t = record { upto = omega arith; same = refl; left = refl }
 
 fill-more : (j p : ℕ) (r : Got (List Policy)) (x : Policy) (t : List ℕ)
     → fileRun j p (part r (λ xs q. got (x ∷ xs) q)) t ≡ fileRun (j + 1) (p + policyWidth x) r (fillPolicy j p x t)
@@ -97,14 +111,14 @@ fill-more j p (got xs q) x t =
     ap (λ (n : ℕ). did n (fillPolicies (j + 1) (p + policyWidth x) xs (fillPolicy j p x t))) z
 fill-more j p (bad n o) x t = refl
 
-module _ (g : List Node) (s : List ℕ) (X : Run) (j p : ℕ) (t : List ℕ) where
-  pub file-eight : Reading g s X j p t → p < length s → j ≡ 16 → refused 8 p ≡ X
+module _ (g : List Node) (s t₀ : List ℕ) (X : Run) (j p : ℕ) (t : List ℕ) where
+  pub file-eight : Reading g s t₀ X j p t → p < length s → j ≡ 16 → refused 8 p ≡ X
   unfolding policiesFrom
   file-eight w a e =
       let i : fileRun j p (policiesFrom g s 0 p) t ≡ X = ap (λ (k : ℕ). fileRun j p (policiesFrom g s k p) t) (let z : 0 ≡ 16 - j = omega arith in z) ∙ w .left in
       rw (lt-ltb p (length s) a) at i
 
-  pub file-done : Reading g s X j p t → length s ≤ p → did j t ≡ X
+  pub file-done : Reading g s t₀ X j p t → length s ≤ p → did j t ≡ X
   unfolding policiesFrom fillPolicies
   file-done w a = go (16 - j) (w .left)
     where
@@ -122,7 +136,7 @@ module _ (g : List Node) (s : List ℕ) (X : Run) (j p : ℕ) (t : List ℕ) whe
     ran-there : {q : ℕ} → f ≡ Next q → Ran (fillPolicy j p) (policy g (drop p s)) t u q
     ran-there h = ran (fillPolicy j p) (policy g (drop p s)) t u e h
 
-  module _ (w : Reading g s X j p t) (a : p < length s) (n : j ≡ 16 → ⊥) where
+  module _ (w : Reading g s t₀ X j p t) (a : p < length s) (n : j ≡ 16 → ⊥) where
     here : fileRun j p (policiesFrom g s (suc (15 - j)) p) t ≡ X
     here = ap (λ (k : ℕ). fileRun j p (policiesFrom g s k p) t) (let z : suc (15 - j) ≡ 16 - j = omega (arith, w .upto) in z) ∙ w .left
 
@@ -131,7 +145,7 @@ module _ (g : List Node) (s : List ℕ) (X : Run) (j p : ℕ) (t : List ℕ) whe
       unfolding policiesFrom onward part
       file-bad h = rw (lt-ltb p (length s) a, bad-there u e h) at here
 
-      pub file-more : {q : ℕ} → f ≡ Next q → Reading g s X (j + 1) (p + q) u
+      pub file-more : {q : ℕ} → f ≡ Next q → Reading g s t₀ X (j + 1) (p + q) u
       unfolding policiesFrom onward part
       file-more {q} h =
           let y = ran-there u e h in
@@ -140,6 +154,7 @@ module _ (g : List Node) (s : List ℕ) (X : Run) (j p : ℕ) (t : List ℕ) whe
           let m : p + q ≡ p + policyWidth (y .what) = ap (λ (i : ℕ). p + i) (policy-back g (drop p s) (y .read) .next) in
           record {
             upto = omega (arith, w .upto);
+            same = ap length (y .index) ∙ policy-length j p (y .what) t ∙ w .same;
             left =
                 rw (k, y .index)
                 (ap (λ (i : ℕ). fileRun (j + 1) i (policiesFrom g s (15 - j) (p + q)) (fillPolicy j p (y .what) t)) m
@@ -158,10 +173,37 @@ module _ (g : List Node) (s : List ℕ) (X : Run) (j p : ℕ) (t : List ℕ) whe
           let z : q ≤ length (drop p s) = rw (ran-there u e h .read) at (policy-within (drop p s) g .end) in
           record { fits = omega (arith, length-drop p s) }
 
+pub file-long : (schema s t₀ : List ℕ) (X : Run) (j p : ℕ) (t : List ℕ) → Reading (schemaOf schema) s t₀ X j p t → Long schema t₀ → Long schema t
+file-long schema s t₀ X j p t i w = record { long = omega (arith, w .long, i .same) }
+
+-- ---- an index that holds nothing
+
+-- the places before i hold 0
+pub record Clearing (t₀ : List ℕ) (i : ℕ) (t : List ℕ) : Type 0 where
+  pub same : length t ≡ length t₀
+  pub zero : (k : ℕ) → k < i → getD t k 0 ≡ 0
+
+pub clear-start : (t : List ℕ) → Clearing t 0 t
+clear-start t = record { same = refl; zero = λ k h. absurd (omega arith) }
+
+pub clear-more : (t₀ : List ℕ) (i : ℕ) (t : List ℕ) → Clearing t₀ i t → i < length t → Clearing t₀ (i + 1) (set t i 0)
+clear-more t₀ i t w h = record { same = length-set t i 0 ∙ w .same; zero = λ k l. go k l (ℕ-discrete k i) }
+  where
+    go : (k : ℕ) → k < i + 1 → Dec (k ≡ i) → getD (set t i 0) k 0 ≡ 0
+    go k l (yes e) = rw e (getD-set-same t i 0 0 h)
+    go k l (no e) = getD-set-other t i k 0 0 e ∙ w .zero k (omega arith)
+
+all-zero : (t : List ℕ) → ((k : ℕ) → k < length t → getD t k 0 ≡ 0) → t ≡ replicate (length t) 0
+all-zero [] h = refl
+all-zero (x ∷ t) h = λ i. h 0 (omega arith) i ∷ all-zero t (λ k l. h (suc k) (omega arith)) i
+
+pub clear-done : (t₀ : List ℕ) (i : ℕ) (t : List ℕ) → Clearing t₀ i t → length t ≤ i → t ≡ replicate (length t₀) 0
+clear-done t₀ i t w h = all-zero t (λ k l. w .zero k (omega arith)) ∙ ap (λ (m : ℕ). replicate m 0) (w .same)
+
 -- ---- the answer and the index
 
 module _ (schema s u t : List ℕ) {f : PoliciesRead} where
-  pub told-policies : {n : ℕ} → fileOutcome f u ≡ fileRun 0 0 (policies (schemaOf schema) s) t → t ≡ blank → f ≡ Policies n → Told schema s (Policies n) u
+  pub told-policies : {n : ℕ} → fileOutcome f u ≡ fileRun 0 0 (policies (schemaOf schema) s) t → IndexRoom schema t → f ≡ Policies n → Told schema s (Policies n) u
   unfolding policiesOf indexOf
   told-policies {n} e b h = go (policies (schemaOf schema) s) refl (sym (ap (λ (x : PoliciesRead). fileOutcome x u) h) ∙ e)
     where
@@ -170,18 +212,26 @@ module _ (schema s u t : List ℕ) {f : PoliciesRead} where
       go (got ps q) k z =
           let c : n ≡ 0 + length ps = cc in
           let v : u ≡ fillPolicies 0 0 ps t = cc in
+          let l : length u ≡ length t = ap length v ∙ policies-length 0 0 ps t in
           record {
             answer = rw k (ap Policies (c ∙ zero-add (length ps)));
-            index = rw k (v ∙ ap (fillPolicies 0 0 ps) b);
+            index = record { filled = rw k (v ∙ ap (fillPolicies 0 0 ps) (b .blank ∙ ap (λ (m : ℕ). replicate m 0) (sym l))); long = omega (arith, b .long) };
           }
 
-  pub told-refused : {m o : ℕ} → fileOutcome f u ≡ fileRun 0 0 (policies (schemaOf schema) s) t → f ≡ Refused m o → Told schema s (Refused m o) blank
+  pub told-refused : {m o : ℕ} (c : List ℕ) → fileOutcome f u ≡ fileRun 0 0 (policies (schemaOf schema) s) t → IndexRoom schema t → f ≡ Refused m o → length u ≡ length t
+      → c ≡ replicate (length u) 0 → Told schema s (Refused m o) c
   unfolding policiesOf indexOf fillPolicies
-  told-refused {m} {o} e h = go (policies (schemaOf schema) s) refl (sym (ap (λ (x : PoliciesRead). fileOutcome x u) h) ∙ e)
+  told-refused {m} {o} c e b h l d = go (policies (schemaOf schema) s) refl (sym (ap (λ (x : PoliciesRead). fileOutcome x u) h) ∙ e)
     where
-      go : (g : Got (List Policy)) → policies (schemaOf schema) s ≡ g → refused m o ≡ fileRun 0 0 g t → Told schema s (Refused m o) blank
+      long : length c ≡ length u
+      long = ap length d ∙ length-replicate {A = ℕ} (length u) 0
+
+      go : (g : Got (List Policy)) → policies (schemaOf schema) s ≡ g → refused m o ≡ fileRun 0 0 g t → Told schema s (Refused m o) c
       go (got ps q) k z = absurd (let y : _≡_ {A = ℕ} 0 1 = cc in omega arith)
       go (bad n p) k z =
           let a : m ≡ n = cc in
-          let c : o ≡ p = cc in
-          record { answer = rw k (λ i. Refused (a i) (c i)); index = rw k }
+          let y : o ≡ p = cc in
+          record {
+            answer = rw k (λ i. Refused (a i) (y i));
+            index = record { filled = rw k (d ∙ ap (λ (i : ℕ). replicate i 0) (sym long)); long = omega (arith, b .long, long) };
+          }

@@ -1,9 +1,8 @@
--- What stands at each place of the index: a place is written once, rows and heads lie apart.
+-- What stands at each place of the index: a place belongs to one policy, and to its head or to one of its nodes, and is written once.
 -- Rests on Sound: nodes of a policy ascend and are below the count, and there are at most sixteen policies.
 use mathlib.Core.Path.{_≡_, refl, ap, sym, _∙_}
 use mathlib.Core.Bool.{Bool, true, false, cond, not}
 use mathlib.Core.List.{List, [], _∷_}
-use mathlib.Core.Logic.{_⊎_, inl, inr, ⊎-elim}
 use Prim.Native.Nat.{ℕ, zero, suc, _+_, _*_, _≤_, _<_}
 use native.Mathlib.Omega.{arith}
 use native.Mathlib.Nat.{add-zero, zero-add}
@@ -35,69 +34,62 @@ placeOf n p (x ∷ xs) = cond (eqb (x .node) n) (p + 3) (placeOf n (p + ruleWidt
 rules-length : (j p : ℕ) (xs : List Rule) (t : List ℕ) → length (fillRules j p xs t) ≡ length t
 unfolding fillRules
 rules-length j p [] t = refl
-rules-length j p (x ∷ xs) t = rules-length j (p + ruleWidth x) xs (set t (64 * j + x .node) (p + 3)) ∙ length-set t (64 * j + x .node) (p + 3)
+rules-length j p (x ∷ xs) t = rules-length j (p + ruleWidth x) xs (set t (16 + 16 * x .node + j) (p + 3)) ∙ length-set t (16 + 16 * x .node + j) (p + 3)
 
-module _ (g : List Node) (most : length g ≤ 64) where
-  -- a place of another row, or of a node below those that are left, stays
-  rules-kept : (j p low i : ℕ) (xs : List Rule) (t : List ℕ) → SoundRules g low xs → (i < 64 * j + low) ⊎ (64 * j + 64 ≤ i)
+pub policy-length : (j h : ℕ) (x : Policy) (t : List ℕ) → length (fillPolicy j h x t) ≡ length t
+unfolding fillPolicy
+policy-length j h x t = rules-length j 7 (x .rules) (set t j h) ∙ length-set t j h
+
+pub policies-length : (c h : ℕ) (xs : List Policy) (t : List ℕ) → length (fillPolicies c h xs t) ≡ length t
+unfolding fillPolicies
+policies-length c h [] t = refl
+policies-length c h (x ∷ xs) t = policies-length (c + 1) (h + policyWidth x) xs (fillPolicy c h x t) ∙ policy-length c h x t
+
+module _ (g : List Node) where
+  -- a place that is none of policy j's from node low on stays
+  rules-kept : (j p low i : ℕ) (xs : List Rule) (t : List ℕ) → SoundRules g low xs → ((n : ℕ) → low ≤ n → i ≡ 16 + 16 * n + j → ⊥)
       → getD (fillRules j p xs t) i 0 ≡ getD t i 0
   unfolding fillRules
   rules-kept j p low i [] t s h = refl
   rules-kept j p low i (x ∷ xs) t s h =
-      rules-kept j (p + ruleWidth x) (x .node + 1) i xs (set t (64 * j + x .node) (p + 3)) (s .2) (far h)
-      ∙ getD-set-other t (64 * j + x .node) i (p + 3) 0 (λ z. other h z)
-    where
-      far : (i < 64 * j + low) ⊎ (64 * j + 64 ≤ i) → (i < 64 * j + (x .node + 1)) ⊎ (64 * j + 64 ≤ i)
-      far (inl a) = inl (let b = s .0 in omega arith)
-      far (inr a) = inr a
+      rules-kept j (p + ruleWidth x) (x .node + 1) i xs (set t (16 + 16 * x .node + j) (p + 3)) (s .2) (λ n l. h n (let b = s .0 in omega arith))
+      ∙ getD-set-other t (16 + 16 * x .node + j) i (p + 3) 0 (h (x .node) (s .0))
 
-      other : (i < 64 * j + low) ⊎ (64 * j + 64 ≤ i) → i ≡ 64 * j + x .node → ⊥
-      other (inl a) z = let b = s .0 in omega arith
-      other (inr a) z = let b = s .1 .below in omega arith
-
-  rules-row : (j p low n : ℕ) (xs : List Rule) (t : List ℕ) → SoundRules g low xs → 64 * j + n < length t → getD t (64 * j + n) 0 ≡ 0
-      → getD (fillRules j p xs t) (64 * j + n) 0 ≡ placeOf n p xs
+  rules-row : (j p low n : ℕ) (xs : List Rule) (t : List ℕ) → SoundRules g low xs → 16 + 16 * n + j < length t → getD t (16 + 16 * n + j) 0 ≡ 0
+      → getD (fillRules j p xs t) (16 + 16 * n + j) 0 ≡ placeOf n p xs
   unfolding fillRules placeOf
   rules-row j p low n [] t s h z = z
-  rules-row j p low n (x ∷ xs) t s h z = go (ℕ-discrete (x .node) n) (rules-row j (p + ruleWidth x) (x .node + 1) n xs (set t (64 * j + x .node) (p + 3)) (s .2))
+  rules-row j p low n (x ∷ xs) t s h z = go (ℕ-discrete (x .node) n) (rules-row j (p + ruleWidth x) (x .node + 1) n xs (set t (16 + 16 * x .node + j) (p + 3)) (s .2))
     where
       go : Dec (x .node ≡ n)
-          → (64 * j + n < length (set t (64 * j + x .node) (p + 3)) → getD (set t (64 * j + x .node) (p + 3)) (64 * j + n) 0 ≡ 0
-          → getD (fillRules j (p + ruleWidth x) xs (set t (64 * j + x .node) (p + 3))) (64 * j + n) 0 ≡ placeOf n (p + ruleWidth x) xs)
-          → getD (fillRules j (p + ruleWidth x) xs (set t (64 * j + x .node) (p + 3))) (64 * j + n) 0
+          → (16 + 16 * n + j < length (set t (16 + 16 * x .node + j) (p + 3)) → getD (set t (16 + 16 * x .node + j) (p + 3)) (16 + 16 * n + j) 0 ≡ 0
+          → getD (fillRules j (p + ruleWidth x) xs (set t (16 + 16 * x .node + j) (p + 3))) (16 + 16 * n + j) 0 ≡ placeOf n (p + ruleWidth x) xs)
+          → getD (fillRules j (p + ruleWidth x) xs (set t (16 + 16 * x .node + j) (p + 3))) (16 + 16 * n + j) 0
           ≡ cond (eqb (x .node) n) (p + 3) (placeOf n (p + ruleWidth x) xs)
       go (yes e) ih =
           rw (eq-eqb (x .node) n e)
-          (rules-kept j (p + ruleWidth x) (x .node + 1) (64 * j + n) xs (set t (64 * j + x .node) (p + 3)) (s .2) (inl (omega arith))
-          ∙ ap (λ (i : ℕ). getD (set t (64 * j + x .node) (p + 3)) i 0) (let w : 64 * j + n ≡ 64 * j + x .node = omega arith in w)
-          ∙ getD-set-same t (64 * j + x .node) (p + 3) 0 (omega arith))
+          (rules-kept j (p + ruleWidth x) (x .node + 1) (16 + 16 * n + j) xs (set t (16 + 16 * x .node + j) (p + 3)) (s .2) (λ m l w. omega arith)
+          ∙ ap (λ (i : ℕ). getD (set t (16 + 16 * x .node + j) (p + 3)) i 0) (let w : 16 + 16 * n + j ≡ 16 + 16 * x .node + j = omega arith in w)
+          ∙ getD-set-same t (16 + 16 * x .node + j) (p + 3) 0 (omega arith))
       go (no e) ih =
           rw (ne-eqb (x .node) n e)
-          (ih (omega (arith, length-set t (64 * j + x .node) (p + 3)))
-          (getD-set-other t (64 * j + x .node) (64 * j + n) (p + 3) 0 (λ w. e (omega arith)) ∙ z))
+          (ih (omega (arith, length-set t (16 + 16 * x .node + j) (p + 3)))
+          (getD-set-other t (16 + 16 * x .node + j) (16 + 16 * n + j) (p + 3) 0 (λ w. e (omega arith)) ∙ z))
 
-  module _ (j h : ℕ) (x : Policy) (s : SoundPolicy g x) (t : List ℕ) where
-    policy-length : length (fillPolicy j h x t) ≡ length t
+  module _ (j h : ℕ) (x : Policy) (s : SoundPolicy g x) (t : List ℕ) (small : j < 16) where
+    policy-row : (n : ℕ) → 16 + 16 * n + j < length t → getD t (16 + 16 * n + j) 0 ≡ 0 → getD (fillPolicy j h x t) (16 + 16 * n + j) 0 ≡ placeOf n 7 (x .rules)
     unfolding fillPolicy
-    policy-length = rules-length j 7 (x .rules) (set t (1024 + j) h) ∙ length-set t (1024 + j) h
+    policy-row n l z =
+        rules-row j 7 0 n (x .rules) (set t j h) (s .rules) (omega (arith, length-set t j h))
+        (getD-set-other t j (16 + 16 * n + j) h 0 (λ w. omega arith) ∙ z)
 
-    policy-row : (n : ℕ) → j < 16 → n < 64 → 1040 ≤ length t → getD t (64 * j + n) 0 ≡ 0 → getD (fillPolicy j h x t) (64 * j + n) 0 ≡ placeOf n 7 (x .rules)
+    policy-head : j < length t → getD (fillPolicy j h x t) j 0 ≡ h
     unfolding fillPolicy
-    policy-row n a b l z =
-        rules-row j 7 0 n (x .rules) (set t (1024 + j) h) (s .rules) (omega (arith, length-set t (1024 + j) h))
-        (getD-set-other t (1024 + j) (64 * j + n) h 0 (λ w. omega arith) ∙ z)
+    policy-head l = rules-kept j 7 0 j (x .rules) (set t j h) (s .rules) (λ n l w. omega arith) ∙ getD-set-same t j h 0 l
 
-    policy-head : j < 16 → 1040 ≤ length t → getD (fillPolicy j h x t) (1024 + j) 0 ≡ h
+    policy-kept : (i : ℕ) → (i ≡ j → ⊥) → ((n : ℕ) → i ≡ 16 + 16 * n + j → ⊥) → getD (fillPolicy j h x t) i 0 ≡ getD t i 0
     unfolding fillPolicy
-    policy-head a l =
-        rules-kept j 7 0 (1024 + j) (x .rules) (set t (1024 + j) h) (s .rules) (inr (omega arith))
-        ∙ getD-set-same t (1024 + j) h 0 (omega arith)
-
-    policy-kept : (i : ℕ) → (i < 64 * j) ⊎ (64 * j + 64 ≤ i) → (i ≡ 1024 + j → ⊥) → getD (fillPolicy j h x t) i 0 ≡ getD t i 0
-    unfolding fillPolicy
-    policy-kept i a e =
-        rules-kept j 7 0 i (x .rules) (set t (1024 + j) h) (s .rules) (⊎-elim (λ w. inl (omega arith)) (λ w. inr w) a)
-        ∙ getD-set-other t (1024 + j) i h 0 e
+    policy-kept i a e = rules-kept j 7 0 i (x .rules) (set t j h) (s .rules) (λ n l. e n) ∙ getD-set-other t j i h 0 a
 
 -- ---- the policies of a file
 
@@ -110,64 +102,63 @@ pub all-sound : (g : List Node) (xs : List Policy) → ((j : ℕ) → j < length
 all-sound g [] h = tt
 all-sound g (x ∷ xs) h = (h 0 (omega arith), all-sound g xs (λ j l. h (suc j) (omega arith)))
 
-module _ (g : List Node) (most : length g ≤ 64) where
-  -- rows and heads of the policies before the c-th stay
-  policies-kept : (c h i : ℕ) (xs : List Policy) (t : List ℕ) → AllSound g xs → c + length xs ≤ 16
-      → (i < 64 * c) ⊎ ((1024 ≤ i) × (i < 1024 + c)) → getD (fillPolicies c h xs t) i 0 ≡ getD t i 0
+-- place i belongs to no policy from the c-th on
+record Apart (c i : ℕ) : Type 0 where
+  pub head : (k : ℕ) → c ≤ k → k < 16 → i ≡ k → ⊥
+  pub row : (n k : ℕ) → c ≤ k → k < 16 → i ≡ 16 + 16 * n + k → ⊥
+
+-- the places of policy c are apart from those of the later ones
+apart-head : (c : ℕ) → c < 16 → Apart (c + 1) c
+apart-head c h = record { head = λ k a b e. omega arith; row = λ n k a b e. omega arith }
+
+apart-row : (c n : ℕ) → c < 16 → Apart (c + 1) (16 + 16 * n + c)
+apart-row c n h = record { head = λ k a b e. omega arith; row = λ m k a b e. omega arith }
+
+module _ (g : List Node) where
+  policies-kept : (c h i : ℕ) (xs : List Policy) (t : List ℕ) → AllSound g xs → c + length xs ≤ 16 → Apart c i → getD (fillPolicies c h xs t) i 0 ≡ getD t i 0
   unfolding fillPolicies
   policies-kept c h i [] t s l w = refl
   policies-kept c h i (x ∷ xs) t s l w =
-      policies-kept (c + 1) (h + policyWidth x) i xs (fillPolicy c h x t) (s .1) (omega arith) (later w)
-      ∙ policy-kept g most c h x (s .0) t i (other w) (apart w)
-    where
-      later : (i < 64 * c) ⊎ ((1024 ≤ i) × (i < 1024 + c)) → (i < 64 * (c + 1)) ⊎ ((1024 ≤ i) × (i < 1024 + (c + 1)))
-      later (inl a) = inl (omega arith)
-      later (inr a) = inr (a .0, (let b = a .1 in omega arith))
-
-      other : (i < 64 * c) ⊎ ((1024 ≤ i) × (i < 1024 + c)) → (i < 64 * c) ⊎ (64 * c + 64 ≤ i)
-      other (inl a) = inl a
-      other (inr a) = inr (let b = a .0 in omega arith)
-
-      apart : (i < 64 * c) ⊎ ((1024 ≤ i) × (i < 1024 + c)) → i ≡ 1024 + c → ⊥
-      apart (inl a) z = omega arith
-      apart (inr a) z = let b = a .1 in omega arith
+      policies-kept (c + 1) (h + policyWidth x) i xs (fillPolicy c h x t) (s .1) (omega arith)
+      (record { head = λ k a b. w .head k (omega arith) b; row = λ n k a b. w .row n k (omega arith) b })
+      ∙ policy-kept g c h x (s .0) t (omega arith) i (w .head c (omega arith) (omega arith)) (λ n. w .row n c (omega arith) (omega arith))
 
   -- the rows from the c-th on are still empty
   record Blank (c : ℕ) (t : List ℕ) : Type 0 where
-    pub long : length t ≡ 1040
-    pub zero : (i : ℕ) → 64 * c ≤ i → i < 1024 → getD t i 0 ≡ 0
+    pub long : 16 + 16 * length g ≤ length t
+    pub zero : (n j : ℕ) → c ≤ j → j < 16 → getD t (16 + 16 * n + j) 0 ≡ 0
 
-  blank-more : (c h : ℕ) (x : Policy) (t : List ℕ) → SoundPolicy g x → Blank c t → Blank (c + 1) (fillPolicy c h x t)
-  blank-more c h x t s w =
+  blank-more : (c h : ℕ) (x : Policy) (t : List ℕ) → SoundPolicy g x → c < 16 → Blank c t → Blank (c + 1) (fillPolicy c h x t)
+  blank-more c h x t s l w =
       record {
-        long = policy-length g most c h x s t ∙ w .long;
-        zero = λ i a b. policy-kept g most c h x s t i (inr (omega arith)) (λ z. omega arith) ∙ w .zero i (omega arith) b;
+        long = omega (arith, w .long, policy-length c h x t);
+        zero = λ n j a b. policy-kept g c h x s t l (16 + 16 * n + j) (λ z. omega arith) (λ m z. omega arith) ∙ w .zero n j (omega arith) b;
       }
 
-  policies-row : (c h n : ℕ) (xs : List Policy) (t : List ℕ) → AllSound g xs → c + length xs ≤ 16 → Blank c t → n < 64 → (j : ℕ) → j < length xs
-      → getD (fillPolicies c h xs t) (64 * (c + j) + n) 0 ≡ placeOf n 7 (policyAt xs j .rules)
+  policies-row : (c h n : ℕ) (xs : List Policy) (t : List ℕ) → AllSound g xs → c + length xs ≤ 16 → Blank c t → n < length g → (j : ℕ) → j < length xs
+      → getD (fillPolicies c h xs t) (16 + 16 * n + (c + j)) 0 ≡ placeOf n 7 (policyAt xs j .rules)
   unfolding fillPolicies
   policies-row c h n [] t s l w a j b = absurd (omega arith)
   policies-row c h n (x ∷ xs) t s l w a zero b =
-      ap (λ (i : ℕ). getD (fillPolicies (c + 1) (h + policyWidth x) xs (fillPolicy c h x t)) i 0) (let z : 64 * (c + 0) + n ≡ 64 * c + n = omega arith in z)
-      ∙ policies-kept (c + 1) (h + policyWidth x) (64 * c + n) xs (fillPolicy c h x t) (s .1) (omega arith) (inl (omega arith))
-      ∙ policy-row g most c h x (s .0) t n (omega arith) a (omega (arith, w .long)) (w .zero (64 * c + n) (omega arith) (omega arith))
+      ap (λ (i : ℕ). getD (fillPolicies (c + 1) (h + policyWidth x) xs (fillPolicy c h x t)) (16 + 16 * n + i) 0) (add-zero c)
+      ∙ policies-kept (c + 1) (h + policyWidth x) (16 + 16 * n + c) xs (fillPolicy c h x t) (s .1) (omega arith) (apart-row c n (omega arith))
+      ∙ policy-row g c h x (s .0) t (omega arith) n (omega (arith, w .long)) (w .zero n c (omega arith) (omega arith))
   policies-row c h n (x ∷ xs) t s l w a (suc j) b =
-      ap (λ (i : ℕ). getD (fillPolicies (c + 1) (h + policyWidth x) xs (fillPolicy c h x t)) i 0) (let z : 64 * (c + suc j) + n ≡ 64 * (c + 1 + j) + n = omega arith in z)
-      ∙ policies-row (c + 1) (h + policyWidth x) n xs (fillPolicy c h x t) (s .1) (omega arith) (blank-more c h x t (s .0) w) a j (omega arith)
+      ap (λ (i : ℕ). getD (fillPolicies (c + 1) (h + policyWidth x) xs (fillPolicy c h x t)) (16 + 16 * n + i) 0) (let z : c + suc j ≡ c + 1 + j = omega arith in z)
+      ∙ policies-row (c + 1) (h + policyWidth x) n xs (fillPolicy c h x t) (s .1) (omega arith) (blank-more c h x t (s .0) (omega arith) w) a j (omega arith)
 
-  policies-head : (c h : ℕ) (xs : List Policy) (t : List ℕ) → AllSound g xs → c + length xs ≤ 16 → length t ≡ 1040 → (j : ℕ) → j < length xs
-      → getD (fillPolicies c h xs t) (1024 + (c + j)) 0 ≡ h + headOf xs j
+  policies-head : (c h : ℕ) (xs : List Policy) (t : List ℕ) → AllSound g xs → c + length xs ≤ 16 → 16 ≤ length t → (j : ℕ) → j < length xs
+      → getD (fillPolicies c h xs t) (c + j) 0 ≡ h + headOf xs j
   unfolding fillPolicies headOf
   policies-head c h [] t s l w j b = absurd (omega arith)
   policies-head c h (x ∷ xs) t s l w zero b =
-      ap (λ (i : ℕ). getD (fillPolicies (c + 1) (h + policyWidth x) xs (fillPolicy c h x t)) i 0) (let z : 1024 + (c + 0) ≡ 1024 + c = omega arith in z)
-      ∙ policies-kept (c + 1) (h + policyWidth x) (1024 + c) xs (fillPolicy c h x t) (s .1) (omega arith) (inr (omega arith, omega arith))
-      ∙ policy-head g most c h x (s .0) t (omega arith) (omega arith)
+      ap (λ (i : ℕ). getD (fillPolicies (c + 1) (h + policyWidth x) xs (fillPolicy c h x t)) i 0) (add-zero c)
+      ∙ policies-kept (c + 1) (h + policyWidth x) c xs (fillPolicy c h x t) (s .1) (omega arith) (apart-head c (omega arith))
+      ∙ policy-head g c h x (s .0) t (omega arith) (omega arith)
       ∙ sym (add-zero h)
   policies-head c h (x ∷ xs) t s l w (suc j) b =
-      ap (λ (i : ℕ). getD (fillPolicies (c + 1) (h + policyWidth x) xs (fillPolicy c h x t)) i 0) (let z : 1024 + (c + suc j) ≡ 1024 + (c + 1 + j) = omega arith in z)
-      ∙ policies-head (c + 1) (h + policyWidth x) xs (fillPolicy c h x t) (s .1) (omega arith) (policy-length g most c h x (s .0) t ∙ w) j (omega arith)
+      ap (λ (i : ℕ). getD (fillPolicies (c + 1) (h + policyWidth x) xs (fillPolicy c h x t)) i 0) (let z : c + suc j ≡ c + 1 + j = omega arith in z)
+      ∙ policies-head (c + 1) (h + policyWidth x) xs (fillPolicy c h x t) (s .1) (omega arith) (omega (arith, policy-length c h x t)) j (omega arith)
       ∙ (let z : h + policyWidth x + headOf xs j ≡ h + (policyWidth x + headOf xs j) = omega arith in z)
 
 zeros : (m i : ℕ) → _≡_ {A = ℕ} (getD (replicate m 0) i 0) 0
@@ -177,21 +168,21 @@ zeros (suc m) (suc i) = zeros m i
 
 -- ---- the index
 
-module _ (g : List Node) (ps : List Policy) (most : length g ≤ 64) (s : Sound g ps) (j : ℕ) (b : j < length ps) where
-  -- place 64 j + n: where policy j's ranks of node n begin, counted from its head, 0 for nowhere
-  pub index-row : (n : ℕ) → n < 64 → getD (indexOf ps) (64 * j + n) 0 ≡ placeOf n 7 (policyAt ps j .rules)
+module _ (g : List Node) (ps : List Policy) (m : ℕ) (long : 16 + 16 * length g ≤ m) (s : Sound g ps) (j : ℕ) (b : j < length ps) where
+  -- place 16 + 16 n + j: where policy j's ranks of node n begin, counted from its head, 0 for nowhere
+  pub index-row : (n : ℕ) → n < length g → getD (indexOf m ps) (16 + 16 * n + j) 0 ≡ placeOf n 7 (policyAt ps j .rules)
   unfolding indexOf
   index-row n a =
-      ap (λ (i : ℕ). getD (fillPolicies 0 0 ps (replicate 1040 0)) (64 * i + n) 0) (sym (zero-add j))
-      ∙ policies-row g most 0 0 n ps (replicate 1040 0) (all-sound g ps (s .each)) (omega (arith, s .few))
-      (record { long = length-replicate {A = ℕ} 1040 0; zero = λ i a b. zeros 1040 i }) a j b
+      ap (λ (i : ℕ). getD (fillPolicies 0 0 ps (replicate m 0)) (16 + 16 * n + i) 0) (sym (zero-add j))
+      ∙ policies-row g 0 0 n ps (replicate m 0) (all-sound g ps (s .each)) (omega (arith, s .few))
+      (record { long = omega (arith, long, length-replicate {A = ℕ} m 0); zero = λ n j a b. zeros m (16 + 16 * n + j) }) a j b
 
-  -- place 1024 + j: policy j's head
-  pub index-head : getD (indexOf ps) (1024 + j) 0 ≡ headOf ps j
+  -- place j: policy j's head
+  pub index-head : getD (indexOf m ps) j 0 ≡ headOf ps j
   unfolding indexOf
   index-head =
-      ap (λ (i : ℕ). getD (fillPolicies 0 0 ps (replicate 1040 0)) (1024 + i) 0) (sym (zero-add j))
-      ∙ policies-head g most 0 0 ps (replicate 1040 0) (all-sound g ps (s .each)) (omega (arith, s .few)) (length-replicate {A = ℕ} 1040 0) j b
+      ap (λ (i : ℕ). getD (fillPolicies 0 0 ps (replicate m 0)) i 0) (sym (zero-add j))
+      ∙ policies-head g 0 0 ps (replicate m 0) (all-sound g ps (s .each)) (omega (arith, s .few)) (omega (arith, long, length-replicate {A = ℕ} m 0)) j b
       ∙ zero-add (headOf ps j)
 
 -- ---- which nodes have a rule
@@ -211,6 +202,6 @@ place-none n p (x ∷ xs) = go (eqb (x .node) n) (place-none n (p + ruleWidth x)
     go false e = e
 
 -- a place is 0 exactly if policy j has no rule for node n
-pub index-none : (g : List Node) (ps : List Policy) → length g ≤ 64 → Sound g ps → (j : ℕ) → j < length ps → (n : ℕ) → n < 64
-    → eqb (getD (indexOf ps) (64 * j + n) 0) 0 ≡ not (hasRule n (policyAt ps j .rules))
-index-none g ps most s j b n a = ap (λ (i : ℕ). eqb i 0) (index-row g ps most s j b n a) ∙ place-none n 7 (policyAt ps j .rules)
+pub index-none : (g : List Node) (ps : List Policy) (m : ℕ) → 16 + 16 * length g ≤ m → Sound g ps → (j : ℕ) → j < length ps → (n : ℕ) → n < length g
+    → eqb (getD (indexOf m ps) (16 + 16 * n + j) 0) 0 ≡ not (hasRule n (policyAt ps j .rules))
+index-none g ps m long s j b n a = ap (λ (i : ℕ). eqb i 0) (index-row g ps m long s j b n a) ∙ place-none n 7 (policyAt ps j .rules)

@@ -14,21 +14,22 @@ use lib.Seq.{drop-cons, getD-set-same, getD-set-other}
 use lib.IntN.{ℤ}
 use Rattle.fields.proofs.Tests.{never}
 use Rattle.numbers.specs.Bits.{ones}
-use Rattle.schema.specs.Schema.{Node, schemaOf, nodeAt, noVariable, variableAt}
+use Rattle.schema.specs.Schema.{Node, schemaOf, nodeAt, noVariable, variableAt, isNumber}
 use Rattle.schema.specs.Table.{NodeIn, AtMost}
 use Rattle.schema.specs.declared.Variable.{Variable}
 use Rattle.schema.specs.declared.Variable.the-variants.{Number, Listed}
 use Rattle.schema.proofs.Access.{node-small}
 use Rattle.policies.specs.Policies.{rankCount}
-use Rattle.policies.specs.Body.{span, spans, offsetOf, isNumber, mostOf, shapeFrom, shapeOf, NodeLaid, Laid}
+use Rattle.policies.specs.Body.{span, spans, offsetOf, mostOf, shapeFrom, shapeOf, NodeLaid, Laid}
 use Rattle.policies.specs.Answers.{SchemaIn}
+use Rattle.policies.proofs.Nodes.{nodes-few}
 use Rattle.policies.proofs.Body.{variables-few}
 
 -- ---- the greatest number of a mask
 
 module _ (v : Variable) where
   pub most-number : {b : Bool} → b ≡ isNumber v → b ≡ true → 4294967295 ≡ mostOf v
-  unfolding mostOf isNumber
+  unfolding mostOf
   most-number e z = go v (sym e ∙ z)
     where
       go : (v : Variable) → isNumber v ≡ true → 4294967295 ≡ mostOf v
@@ -53,7 +54,7 @@ pub ruleset of-most = (most-number, most-range, most-listed, most-long)
 -- ---- places
 
 -- the conditions before the next one
-spans-next : (vs : List Variable) (k : ℕ) → k < length vs → spans (suc k) vs ≡ spans k vs + span (getD vs k noVariable)
+pub spans-next : (vs : List Variable) (k : ℕ) → k < length vs → spans (suc k) vs ≡ spans k vs + span (getD vs k noVariable)
 unfolding spans
 spans-next [] k h = absurd (omega arith)
 spans-next (v ∷ vs) zero h = omega arith
@@ -71,7 +72,8 @@ kept x m t i v few a b w =
 -- ---- the loop over a node's variables
 
 -- node n, of which k conditions are laid; w is the offset of the next, f the number up to the last listed one
-pub record Laying (schema : List ℕ) (n k w f : ℕ) (t : List ℕ) : Type 0 where
+pub record Laying (schema : List ℕ) (n : ℕ) (t₀ : List ℕ) (k w f : ℕ) (t : List ℕ) : Type 0 where
+  pub same : length t ≡ length t₀
   pub below : Laid (schemaOf schema) n t
   pub width : w ≡ offsetOf (nodeAt (schemaOf schema) n) k
   pub small : w ≤ 8 + 8 * k
@@ -81,10 +83,11 @@ pub record Laying (schema : List ℕ) (n k w f : ℕ) (t : List ℕ) : Type 0 wh
   pub at : (i : ℕ) → i < k → getD t (64 + 8 * n + 2 * i) 0 ≡ offsetOf (nodeAt (schemaOf schema) n) i
   pub most : (i : ℕ) → i < k → getD t (64 + 8 * n + 2 * i + 1) 0 ≡ mostOf (getD (nodeAt (schemaOf schema) n .variables) i noVariable)
 
-pub lay-start : (schema : List ℕ) (n : ℕ) (t : List ℕ) {c : ℕ} → Laid (schemaOf schema) n t → AtMost 8 (rankCount (nodeAt (schemaOf schema) n)) c → Laying schema n 0 c 0 t
+pub lay-start : (schema : List ℕ) (n : ℕ) (t : List ℕ) {c : ℕ} → Laid (schemaOf schema) n t → AtMost 8 (rankCount (nodeAt (schemaOf schema) n)) c → Laying schema n t 0 c 0 t
 unfolding shapeOf offsetOf spans
 lay-start schema n t w a =
     record {
+      same = refl;
       below = w;
       width = a .is ∙ sym (add-zero _);
       small = omega (arith, a .most);
@@ -95,7 +98,7 @@ lay-start schema n t w a =
       most = λ i h. absurd (omega arith);
     }
 
-module _ (schema : List ℕ) {table : List ℕ} (n k w f : ℕ) (t : List ℕ) {c : ℕ} (i : Laying schema n k w f t) (b : NodeIn schema table n) (h : k < c)
+module _ (schema : List ℕ) {table : List ℕ} (n : ℕ) (t₀ : List ℕ) (k w f : ℕ) (t : List ℕ) {c : ℕ} (i : Laying schema n t₀ k w f t) (b : NodeIn schema table n) (h : k < c)
     (a : AtMost 4 (length (nodeAt (schemaOf schema) n .variables)) c) where
   abbrev vs : List Variable
   vs = nodeAt (schemaOf schema) n .variables
@@ -103,8 +106,11 @@ module _ (schema : List ℕ) {table : List ℕ} (n k w f : ℕ) (t : List ℕ) {
   small-node : n < 64
   small-node = node-small schema table n b
 
-  pub lay-place : 64 + 8 * n + 2 * k + 1 < 576
-  lay-place = omega (arith, small-node, a .most)
+  pub lay-place : 64 + 8 * n + 2 * k + 1 < length t
+  lay-place = omega (arith, b .below, i .below .long, a .most)
+
+  lay-low : 64 + 8 * n + 2 * k < length t
+  lay-low = omega (arith, lay-place)
 
   inside : k < length vs
   inside = omega (arith, a .is)
@@ -119,13 +125,13 @@ module _ (schema : List ℕ) {table : List ℕ} (n k w f : ℕ) (t : List ℕ) {
         getD-set-other (set t (64 + 8 * n + 2 * k) w) (64 + 8 * n + 2 * k + 1) j v 0 q
         ∙ getD-set-other t (64 + 8 * n + 2 * k) j w 0 p
 
-    long-stored : length stored ≡ 576
-    long-stored = length-set (set t (64 + 8 * n + 2 * k) w) (64 + 8 * n + 2 * k + 1) v ∙ length-set t (64 + 8 * n + 2 * k) w ∙ i .below .long
+    long-stored : length stored ≡ length t
+    long-stored = length-set (set t (64 + 8 * n + 2 * k) w) (64 + 8 * n + 2 * k + 1) v ∙ length-set t (64 + 8 * n + 2 * k) w
 
     below-stored : Laid (schemaOf schema) n stored
     below-stored =
         record {
-          long = long-stored;
+          long = omega (arith, i .below .long, long-stored);
           each = λ m l.
               let few = variables-few schema m (omega (arith, b .below)) in
               kept (nodeAt (schemaOf schema) m) m (set t (64 + 8 * n + 2 * k) w) (64 + 8 * n + 2 * k + 1) v few (λ z. omega (arith, small-node)) (λ z. omega arith)
@@ -139,7 +145,7 @@ module _ (schema : List ℕ) {table : List ℕ} (n k w f : ℕ) (t : List ℕ) {
         go (yes z) =
             rw z
             (getD-set-other (set t (64 + 8 * n + 2 * k) w) (64 + 8 * n + 2 * k + 1) (64 + 8 * n + 2 * k) v 0 (λ y. omega arith)
-            ∙ getD-set-same t (64 + 8 * n + 2 * k) w 0 (omega (arith, i .below .long, lay-place))
+            ∙ getD-set-same t (64 + 8 * n + 2 * k) w 0 lay-low
             ∙ i .width)
         go (no z) = away (64 + 8 * n + 2 * j) (λ y. z (omega arith)) (λ y. omega arith) ∙ i .at j (omega arith)
 
@@ -150,7 +156,7 @@ module _ (schema : List ℕ) {table : List ℕ} (n k w f : ℕ) (t : List ℕ) {
         go (yes z) =
             rw z
             (getD-set-same (set t (64 + 8 * n + 2 * k) w) (64 + 8 * n + 2 * k + 1) v 0
-            (omega (arith, length-set t (64 + 8 * n + 2 * k) w, i .below .long, lay-place))
+            (omega (arith, length-set t (64 + 8 * n + 2 * k) w, lay-place))
             ∙ e)
         go (no z) = away (64 + 8 * n + 2 * j + 1) (λ y. omega arith) (λ y. z (omega arith)) ∙ i .most j (omega arith)
 
@@ -163,14 +169,15 @@ module _ (schema : List ℕ) {table : List ℕ} (n k w f : ℕ) (t : List ℕ) {
 
   -- the two stores, then the width by the variable's kind
   module _ {m : ℕ} {u : List ℕ} {v : Bool} (d : m ≡ mostOf (variableAt (schemaOf schema) n k)) (q : u ≡ stored m) (e : v ≡ isNumber (variableAt (schemaOf schema) n k)) where
-    pub lay-number : v ≡ true → Laying schema n (k + 1) (w + 8) f u
-    unfolding isNumber shapeFrom span
+    pub lay-number : v ≡ true → Laying schema n t₀ (k + 1) (w + 8) f u
+    unfolding shapeFrom span
     lay-number z = rw q (go (getD vs k noVariable) refl (sym e ∙ z))
       where
-        go : (v : Variable) → getD vs k noVariable ≡ v → isNumber v ≡ true → Laying schema n (k + 1) (w + 8) f (stored m)
+        go : (v : Variable) → getD vs k noVariable ≡ v → isNumber v ≡ true → Laying schema n t₀ (k + 1) (w + 8) f (stored m)
         go (Listed size) y z = never z
         go (Number lo hi) y z =
             record {
+              same = long-stored m ∙ i .same;
               below = below-stored m;
               width = ap (λ (u : Variable). w + span u) (sym y) ∙ width-next;
               small = omega (arith, i .small);
@@ -181,14 +188,15 @@ module _ (schema : List ℕ) {table : List ℕ} (n k w f : ℕ) (t : List ℕ) {
               most = most-stored m d;
             }
 
-    pub lay-listed : v ≡ false → Laying schema n (k + 1) (w + 4) (k + 1) u
-    unfolding isNumber shapeFrom span
+    pub lay-listed : v ≡ false → Laying schema n t₀ (k + 1) (w + 4) (k + 1) u
+    unfolding shapeFrom span
     lay-listed z = rw q (go (getD vs k noVariable) refl (sym e ∙ z))
       where
-        go : (v : Variable) → getD vs k noVariable ≡ v → isNumber v ≡ false → Laying schema n (k + 1) (w + 4) (k + 1) (stored m)
+        go : (v : Variable) → getD vs k noVariable ≡ v → isNumber v ≡ false → Laying schema n t₀ (k + 1) (w + 4) (k + 1) (stored m)
         go (Number lo hi) y z = never (sym z)
         go (Listed size) y z =
             record {
+              same = long-stored m ∙ i .same;
               below = below-stored m;
               width = ap (λ (u : Variable). w + span u) (sym y) ∙ width-next;
               small = omega (arith, i .small);
@@ -201,11 +209,11 @@ module _ (schema : List ℕ) {table : List ℕ} (n k w f : ℕ) (t : List ℕ) {
 
 -- ---- the node done, and all of them
 
-pub lay-done : (schema : List ℕ) {table : List ℕ} (n k w f : ℕ) (t : List ℕ) {c : ℕ} → Laying schema n k w f t → NodeIn schema table n → c ≤ k
+pub lay-done : (schema : List ℕ) {table : List ℕ} (n : ℕ) (t₀ : List ℕ) (k w f : ℕ) (t : List ℕ) {c : ℕ} → Laying schema n t₀ k w f t → NodeIn schema table n → c ≤ k
     → AtMost 4 (length (nodeAt (schemaOf schema) n .variables)) c → Laid (schemaOf schema) (n + 1) (set t n (8 * w + f))
 unfolding shapeFrom
-lay-done schema n k w f t i b h a =
-    record { long = length-set t n (8 * w + f) ∙ i .below .long; each = λ m l. go m l (ℕ-discrete m n) }
+lay-done schema n t₀ k w f t i b h a =
+    record { long = omega (arith, length-set t n (8 * w + f), i .below .long); each = λ m l. go m l (ℕ-discrete m n) }
   where
     small-node : n < 64
     small-node = node-small schema _ n b
@@ -224,11 +232,36 @@ lay-done schema n k w f t i b h a =
           most = λ j r. getD-set-other t n (64 + 8 * n + 2 * j + 1) (8 * w + f) 0 (λ y. omega (arith, small-node)) ∙ i .most j (omega (arith, a .is));
         })
 
-pub laid-none : (g : List Node) → Laid g 0 (replicate 576 0)
-laid-none g = record { long = length-replicate {A = ℕ} 576 0; each = λ m h. absurd (omega arith) }
+-- a node's own place
+pub lay-own : (schema : List ℕ) {table : List ℕ} (n : ℕ) (t₀ : List ℕ) (k w f : ℕ) (t : List ℕ) → Laying schema n t₀ k w f t → NodeIn schema table n → n < length t
+lay-own schema n t₀ k w f t i b = omega (arith, b .below, i .below .long)
 
-pub laid-count : (g : List Node) (n : ℕ) (t : List ℕ) {count : ℕ} → Laid g n t → count ≤ n → Laid g count t
-laid-count g n t w b = record { long = w .long; each = λ m h. w .each m (omega arith) }
+pub lay-same : (schema : List ℕ) (n : ℕ) (t₀ : List ℕ) (k w f : ℕ) (t : List ℕ) (v : ℕ) → Laying schema n t₀ k w f t → length (set t n v) ≡ length t₀
+lay-same schema n t₀ k w f t v i = length-set t n v ∙ i .same
+
+-- zeros, enough of them for the nodes
+laid-none : (g : List Node) (m : ℕ) → 64 + 8 * length g ≤ m → Laid g 0 (replicate m 0)
+laid-none g m h = record { long = omega (arith, length-replicate {A = ℕ} m 0); each = λ m h. absurd (omega arith) }
+
+pub laid-8 : (schema : List ℕ) {table : List ℕ} {count : ℕ} → SchemaIn schema table count → count ≤ 8 → Laid (schemaOf schema) 0 (replicate 128 0)
+laid-8 schema s h = laid-none (schemaOf schema) 128 (omega (arith, s .counted))
+
+pub laid-64 : (schema : List ℕ) → Laid (schemaOf schema) 0 (replicate 576 0)
+laid-64 schema = laid-none (schemaOf schema) 576 (omega (arith, nodes-few schema))
+
+-- the nodes below n are laid; the layout is as long as it was
+pub record LayingAll (g : List Node) (t₀ : List ℕ) (n : ℕ) (t : List ℕ) : Type 0 where
+  pub same : length t ≡ length t₀
+  pub laid : Laid g n t
+
+pub laid-start : (g : List Node) (t : List ℕ) → Laid g 0 t → LayingAll g t 0 t
+laid-start g t w = record { same = refl; laid = w }
+
+pub laid-more : (g : List Node) (t₀ : List ℕ) (n : ℕ) (t : List ℕ) {u : List ℕ} → LayingAll g t₀ n t → Laid g (n + 1) u → length u ≡ length t → LayingAll g t₀ (n + 1) u
+laid-more g t₀ n t w d e = record { same = e ∙ w .same; laid = d }
+
+pub laid-count : (g : List Node) (t₀ : List ℕ) (n : ℕ) (t : List ℕ) {count : ℕ} → LayingAll g t₀ n t → count ≤ n → Laid g count t
+laid-count g t₀ n t w b = record { long = w .laid .long; each = λ m h. w .laid .each m (omega arith) }
 
 pub laid-all : (schema : List ℕ) {table : List ℕ} (t : List ℕ) {count : ℕ} → SchemaIn schema table count → Laid (schemaOf schema) count t
     → Laid (schemaOf schema) (length (schemaOf schema)) t

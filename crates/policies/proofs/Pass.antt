@@ -72,7 +72,7 @@ module _ {g : List Node} (s : List ℕ) (x : Policy) (w : PolicyAt g s x) (a b :
 
 -- the same through the index
 module _ (schema p t : List ℕ) (j : ℕ) (w : PolicyIn schema p t j) (a b : ℕ) {f : HeadRead}
-    (e : head (drop (getD t (1024 + j) 0) p) ≡ headIn f) where
+    (e : head (drop (getD t j 0) p) ≡ headIn f) where
   pub in-force-none : {m o : ℕ} → f ≡ NoHead m o → false ≡ inForce a b (policyOf schema p j)
   in-force-none h = force-none _ (policyOf schema p j) (policy-there schema p t j w) a b e h
 

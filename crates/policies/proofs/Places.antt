@@ -15,7 +15,6 @@ use Rattle.policies.specs.Policies.{Rule, Policy, rankCount, policiesOf,
 use Rattle.policies.specs.Index.{ruleWidth, policyWidth, policyOf, Indexed, PolicyIn, RankIn}
 use Rattle.policies.proofs.Stands.{none, more, RuleAt, RulesAt, PolicyAt, PoliciesAt}
 use Rattle.policies.proofs.Sound.{stood}
-use Rattle.policies.proofs.Nodes.{nodes-few}
 use Rattle.policies.proofs.Index.{headOf, placeOf, index-row, index-head}
 
 -- ---- a rule's place
@@ -84,49 +83,52 @@ module _ (schema p t : List ℕ) (j : ℕ) (w : PolicyIn schema p t j) where
   pub policy-few : j < 16
   policy-few = omega (arith, w .below, stood (schemaOf schema) p .sound .few)
 
-  head-is : getD t (1024 + j) 0 ≡ headOf (policiesOf (schemaOf schema) p) j
-  head-is =
-      ap (λ (l : List ℕ). getD l (1024 + j) 0) (w .index)
-      ∙ index-head (schemaOf schema) (policiesOf (schemaOf schema) p) (nodes-few schema) (stood (schemaOf schema) p .sound) j (w .below)
+  -- so its places are inside the index
+  pub policy-long : 16 + 16 * length (schemaOf schema) ≤ length t
+  policy-long = w .index .long
 
-  stretch : Stretch (schemaOf schema) p (getD t (1024 + j) 0) (policyOf schema p j)
+  head-is : getD t j 0 ≡ headOf (policiesOf (schemaOf schema) p) j
+  head-is =
+      ap (λ (l : List ℕ). getD l j 0) (w .index .filled)
+      ∙ index-head (schemaOf schema) (policiesOf (schemaOf schema) p) (length t) (w .index .long) (stood (schemaOf schema) p .sound) j (w .below)
+
+  stretch : Stretch (schemaOf schema) p (getD t j 0) (policyOf schema p j)
   stretch =
       subst (λ (h : ℕ). Stretch (schemaOf schema) p h (policyOf schema p j)) (zero-add (headOf (policiesOf (schemaOf schema) p) j) ∙ sym head-is)
       (stretch-at (stood (schemaOf schema) p .stand) j (w .below))
 
-  pub head-in : getD t (1024 + j) 0 ≤ length p
+  pub head-in : getD t j 0 ≤ length p
   head-in = omega (arith, stretch .inside)
 
-  pub policy-there : PolicyAt (schemaOf schema) (drop (getD t (1024 + j) 0) p) (policyOf schema p j)
+  pub policy-there : PolicyAt (schemaOf schema) (drop (getD t j 0) p) (policyOf schema p j)
   policy-there = stretch .policy
 
   -- the policy's stretch, as a callee is lent it
   abbrev lent : List ℕ
-  lent = take (length p - getD t (1024 + j) 0) (drop (getD t (1024 + j) 0) p)
+  lent = take (length p - getD t j 0) (drop (getD t j 0) p)
 
   policy-here : PolicyAt (schemaOf schema) lent (policyOf schema p j)
-  policy-here = subst (λ (b : List ℕ). PolicyAt (schemaOf schema) b (policyOf schema p j)) (sym (rest p (getD t (1024 + j) 0))) policy-there
+  policy-here = subst (λ (b : List ℕ). PolicyAt (schemaOf schema) b (policyOf schema p j)) (sym (rest p (getD t j 0))) policy-there
 
   module _ (n : ℕ) (below : n < length (schemaOf schema)) where
-    pub row : Place (schemaOf schema) lent n (getD t (64 * j + n) 0) (ruleFor n (policyOf schema p j .rules))
+    pub row : Place (schemaOf schema) lent n (getD t (16 + 16 * n + j) 0) (ruleFor n (policyOf schema p j .rules))
     row =
         subst (λ (i : ℕ). Place (schemaOf schema) lent n i (ruleFor n (policyOf schema p j .rules)))
-        (sym (ap (λ (l : List ℕ). getD l (64 * j + n) 0) (w .index)
-        ∙ index-row (schemaOf schema) (policiesOf (schemaOf schema) p) (nodes-few schema) (stood (schemaOf schema) p .sound) j (w .below) n
-        (omega (arith, nodes-few schema))))
+        (sym (ap (λ (l : List ℕ). getD l (16 + 16 * n + j) 0) (w .index .filled)
+        ∙ index-row (schemaOf schema) (policiesOf (schemaOf schema) p) (length t) (w .index .long) (stood (schemaOf schema) p .sound) j (w .below) n below))
         (place n (policy-here .rules))
 
   module _ (n k : ℕ) (a : RankIn schema n k) where
-    pub rank-none : getD t (64 * j + n) 0 ≡ 0 → 0 ≡ rankOf (policyOf schema p j) n k
+    pub rank-none : getD t (16 + 16 * n + j) 0 ≡ 0 → 0 ≡ rankOf (policyOf schema p j) n k
     unfolding rankOf
     rank-none e = rank-absent (schemaOf schema) lent n k (row n (a .below)) e
 
-    here : (getD t (64 * j + n) 0 ≡ 0 → ⊥) → Rank (schemaOf schema) lent n k (getD t (64 * j + n) 0) (ruleFor n (policyOf schema p j .rules))
+    here : (getD t (16 + 16 * n + j) 0 ≡ 0 → ⊥) → Rank (schemaOf schema) lent n k (getD t (16 + 16 * n + j) 0) (ruleFor n (policyOf schema p j .rules))
     here e = rank-present (schemaOf schema) lent n k (row n (a .below)) e (a .rank)
 
-    pub rank-in : (getD t (64 * j + n) 0 ≡ 0 → ⊥) → getD t (64 * j + n) 0 + k < length lent
+    pub rank-in : (getD t (16 + 16 * n + j) 0 ≡ 0 → ⊥) → getD t (16 + 16 * n + j) 0 + k < length lent
     rank-in e = here e .inside
 
-    pub rank-is : {r : ℕ} → (getD t (64 * j + n) 0 ≡ 0 → ⊥) → r ≡ getD lent (getD t (64 * j + n) 0 + k) 0 → r ≡ rankOf (policyOf schema p j) n k
+    pub rank-is : {r : ℕ} → (getD t (16 + 16 * n + j) 0 ≡ 0 → ⊥) → r ≡ getD lent (getD t (16 + 16 * n + j) 0 + k) 0 → r ≡ rankOf (policyOf schema p j) n k
     unfolding rankOf
     rank-is e h = h ∙ here e .is

@@ -132,6 +132,7 @@ ranks-back s (suc n) p {rs} {q} e =
 -- a PN at p
 pub record RuleAt (g : List Node) (s : List ℕ) (p : ℕ) (x : Rule) : Type 0 where
   pub below : x .node < length g
+  pub inside : p + 3 ≤ length s
   pub count : length (x .ranks) ≡ rankCount (nodeAt g (x .node))
   pub ranks : RanksAt s (p + 3) (x .ranks)
   pub conditions : ConditionsAt s (p + 3 + length (x .ranks)) (nodeAt g (x .node) .variables) (x .conditions)
@@ -189,6 +190,7 @@ rule-back g s low p {x} {q} e =
       stands =
           record {
             below = omega (arith, r .node);
+            inside = omega (arith, f .inside);
             count = r .count ∙ ap (λ (i : ℕ). rankCount (nodeAt g i)) (sym (r .node));
             ranks = subst (λ (i : ℕ). RanksAt s i (x .ranks)) a (r .ranks);
             conditions =

@@ -1,15 +1,15 @@
 -- What the code's answers say of what was read, and of the index that was filled.
-use Prim.Native.Nat.{ℕ, _+_}
+use Prim.Native.Nat.{ℕ, _+_, _*_, _≤_}
 use mathlib.Core.Path.{_≡_}
 use mathlib.Core.List.{List}
-use lib.ListN.{length, replicate}
+use lib.ListN.{length}
 use Rattle.fields.specs.Reading.{Got, got, bad}
 use Rattle.fields.specs.declared.Step.{Step}
 use Rattle.fields.specs.declared.Step.the-variants.{Next, Bad}
 use Rattle.schema.specs.Schema.{schemaOf}
-use Rattle.schema.specs.Table.{tableOf}
-use Rattle.policies.specs.Policies.{Rule, Policy, Head, policies, policiesOf}
-use Rattle.policies.specs.Index.{fillPolicies, indexOf}
+use Rattle.schema.specs.Table.{Tabled}
+use Rattle.policies.specs.Policies.{Rule, Policy, Head, policies}
+use Rattle.policies.specs.Index.{fillPolicies, IndexIn}
 use Rattle.policies.specs.declared.HeadRead.{HeadRead}
 use Rattle.policies.specs.declared.HeadRead.the-variants.{Found, NoHead}
 use Rattle.policies.specs.declared.RuleRead.{RuleRead}
@@ -29,23 +29,23 @@ policiesRead (bad n o) = Refused n o
 
 -- t is the table of the schema file s, which has so many nodes
 pub record SchemaIn (s t : List ℕ) (count : ℕ) : Type 0 where
-  pub table : t ≡ tableOf (schemaOf s)
+  pub table : Tabled s t
   pub counted : count ≡ length (schemaOf s)
-
--- an index that holds nothing
-abbrev pub blank : List ℕ
-blank = replicate 1040 0
 
 -- the answer for the file p, and its index; that of a refused file holds nothing
 pub record Told (s p : List ℕ) (r : PoliciesRead) (t : List ℕ) : Type 0 where
   pub answer : r ≡ policiesRead (policies (schemaOf s) p)
-  pub index : t ≡ indexOf (policiesOf (schemaOf s) p)
+  pub index : IndexIn s p t
 
 -- ---- for the contracts of functions that no other crate calls
 
--- a PN that began at p: its node and the place of its ranks
+-- the index t has a place for each policy and each node of the schema file s
+pub record Long (s t : List ℕ) : Type 0 where
+  pub long : 16 + 16 * length (schemaOf s) ≤ length t
+
+-- a PN that began at p: its node, the place of its ranks and the lowest node that may follow
 abbrev pub ruleRead : ℕ → Got Rule → RuleRead
-ruleRead p (got x q) = Named (x .node) (p + 3) q
+ruleRead p (got x q) = Named (x .node) (p + 3) (x .node + 1) q
 ruleRead p (bad n o) = NoRule n o
 
 -- what a call that fills the index did: a number and the index, or a refusal, whatever the index then holds

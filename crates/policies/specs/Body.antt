@@ -3,7 +3,7 @@
 use Prim.Native.Nat.{ℕ, zero, suc, _+_, _*_, _<_, _≤_}
 use mathlib.Core.Path.{_≡_}
 use mathlib.Core.List.{List, [], _∷_}
-use mathlib.Core.Bool.{Bool, true, false, cond, _&&_}
+use mathlib.Core.Bool.{Bool, true, cond, _&&_}
 use lib.ListN.{length, getD}
 use lib.Dec.{leb}
 use Rattle.fields.specs.Reading.{be}
@@ -26,10 +26,6 @@ spans (suc k) (v ∷ vs) = span v + spans k vs
 -- where condition k stands in a node's PN, counted from the ranks
 unfoldable pub offsetOf : Node → ℕ → ℕ
 offsetOf x k = rankCount x + spans k (x .variables)
-
-unfoldable pub isNumber : Variable → Bool
-isNumber (Number lo hi) = true
-isNumber (Listed size) = false
 
 -- the greatest number that the first four bytes of a variable's condition may spell
 unfoldable pub mostOf : Variable → ℕ
@@ -57,7 +53,7 @@ pub record NodeLaid (x : Node) (n : ℕ) (t : List ℕ) : Type 0 where
 
 -- t holds the layout of the nodes below n
 pub record Laid (g : List Node) (n : ℕ) (t : List ℕ) : Type 0 where
-  pub long : length t ≡ 576
+  pub long : 64 + 8 * length g ≤ length t
   pub each : (m : ℕ) → m < n → NodeLaid (nodeAt g m) m t
 
 -- no condition of the first k exceeds its greatest number, in a PN of node n whose ranks begin at p
@@ -68,5 +64,6 @@ noneOver t s n p (suc k) = leb (be 4 s (p + getD t (64 + 8 * n + 2 * k) 0)) (get
 -- the first k conditions are there
 pub record Looking (t s : List ℕ) (n k p : ℕ) : Type 0 where
   pub node : n < 64
+  pub long : 64 + 8 * n + 8 ≤ length t
   pub few : k ≤ 4
   pub there : (i : ℕ) → i < k → p + getD t (64 + 8 * n + 2 * i) 0 + 4 ≤ length s

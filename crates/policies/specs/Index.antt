@@ -1,5 +1,5 @@
 -- Where the policies of an accepted file speak of each node.
-use Prim.Native.Nat.{ℕ, _+_, _*_, _<_}
+use Prim.Native.Nat.{ℕ, _+_, _*_, _<_, _≤_}
 use mathlib.Core.Path.{_≡_}
 use mathlib.Core.List.{List, [], _∷_}
 use lib.ListN.{length, set, replicate}
@@ -25,37 +25,48 @@ rulesWidth (x ∷ xs) = ruleWidth x + rulesWidth xs
 unfoldable pub policyWidth : Policy → ℕ
 policyWidth x = 7 + rulesWidth (x .rules)
 
--- place 64 j + n of the index: where policy j's ranks of node n begin, counted from its head, 0 for nowhere
+-- place 16 + 16 n + j of the index: where policy j's ranks of node n begin, counted from its head, 0 for nowhere
 unfoldable pub fillRules : ℕ → ℕ → List Rule → List ℕ → List ℕ
 fillRules j p [] t = t
-fillRules j p (x ∷ xs) t = fillRules j (p + ruleWidth x) xs (set t (64 * j + x .node) (p + 3))
+fillRules j p (x ∷ xs) t = fillRules j (p + ruleWidth x) xs (set t (16 + 16 * x .node + j) (p + 3))
 
--- place 1024 + j: where policy j's head is in the file
+-- place j: where policy j's head is in the file
 unfoldable pub fillPolicy : ℕ → ℕ → Policy → List ℕ → List ℕ
-fillPolicy j h x t = fillRules j 7 (x .rules) (set t (1024 + j) h)
+fillPolicy j h x t = fillRules j 7 (x .rules) (set t j h)
 
 unfoldable pub fillPolicies : ℕ → ℕ → List Policy → List ℕ → List ℕ
 fillPolicies j h [] t = t
 fillPolicies j h (x ∷ xs) t = fillPolicies (j + 1) (h + policyWidth x) xs (fillPolicy j h x t)
 
-unfoldable pub indexOf : List Policy → List ℕ
-indexOf ps = fillPolicies 0 0 ps (replicate 1040 0)
+-- an index of m places
+unfoldable pub indexOf : ℕ → List Policy → List ℕ
+indexOf m ps = fillPolicies 0 0 ps (replicate m 0)
 
 -- policy j of the file p, under the schema file s
 abbrev pub policyOf : List ℕ → List ℕ → ℕ → Policy
 policyOf s p j = policyAt (policiesOf (schemaOf s) p) j
 
+-- t is the index of the file p under the schema file s; it may be longer than the nodes need
+pub record IndexIn (s p t : List ℕ) : Type 0 where
+  pub filled : t ≡ indexOf (length t) (policiesOf (schemaOf s) p)
+  pub long : 16 + 16 * length (schemaOf s) ≤ length t
+
 -- t is the index of the file p, which has so many policies
 pub record Indexed (s p t : List ℕ) (count : ℕ) : Type 0 where
-  pub index : t ≡ indexOf (policiesOf (schemaOf s) p)
+  pub index : IndexIn s p t
   pub counted : count ≡ length (policiesOf (schemaOf s) p)
 
 -- t is the index of the file p, and j one of its policies
 pub record PolicyIn (s p t : List ℕ) (j : ℕ) : Type 0 where
-  pub index : t ≡ indexOf (policiesOf (schemaOf s) p)
+  pub index : IndexIn s p t
   pub below : j < length (policiesOf (schemaOf s) p)
 
 -- node n of the schema file s has a rank k in a policy
 pub record RankIn (s : List ℕ) (n k : ℕ) : Type 0 where
   pub below : n < length (schemaOf s)
   pub rank : k < rankCount (nodeAt (schemaOf s) n)
+
+-- t holds nothing, and has a place for each policy and each node of the schema file s
+pub record IndexRoom (s t : List ℕ) : Type 0 where
+  pub blank : t ≡ replicate (length t) 0
+  pub long : 16 + 16 * length (schemaOf s) ≤ length t

@@ -1,21 +1,21 @@
 // The reader of policies files, and accessors to the policies of an accepted one.
 ghost use mathlib.Core.Path.{_≡_};
 ghost use Prim.Native.Nat.{_+_, _<_, _≤_};
-ghost use lib.ListN.{length, getD, set, drop};
+ghost use lib.ListN.{length, getD, set, drop, replicate};
 ghost use Rattle.fields.specs.Answers.{stepOf};
 ghost use Rattle.schema.specs.Schema.{schemaOf, nodeAt, variableAt};
 ghost use Rattle.schema.specs.Table.{NodeIn, AtMost};
 ghost use Rattle.policies.specs.Policies.{ranks, condition, conditions, ruleOf, rule, rules, head, policy, policies, rankCount, rankOf, policiesOf};
 ghost use Rattle.policies.specs.Pass.{pass, inForce, positions, Listing};
-ghost use Rattle.policies.specs.Index.{fillRules, fillPolicy, policyOf, Indexed, PolicyIn, RankIn};
-ghost use Rattle.policies.specs.Body.{isNumber, mostOf, Laid, Looking, noneOver};
-ghost use Rattle.policies.specs.Answers.{headIn, ruleRead, outcome, runOf, fileOutcome, fileRun, SchemaIn, blank, Told};
+ghost use Rattle.policies.specs.Index.{fillRules, fillPolicy, policyOf, Indexed, PolicyIn, RankIn, IndexRoom};
+ghost use Rattle.policies.specs.Body.{mostOf, Laid, Looking, noneOver};
+ghost use Rattle.policies.specs.Answers.{headIn, ruleRead, outcome, runOf, fileOutcome, fileRun, SchemaIn, Long, Told};
 use fields::Field;
 use fields::Step;
 use schema::Variable;
 
 // A policy's head and the position after it, or a breach.
-pub enum HeadRead {
+enum HeadRead {
     Found {
         first: u32,
         last: u32,
@@ -28,11 +28,12 @@ pub enum HeadRead {
     },
 }
 
-// A PN: its node, the place of its ranks and the position after it, or a breach.
+// A PN: its node, the place of its ranks, the lowest node that may follow and the position after it, or a breach.
 enum RuleRead {
     Named {
         node: usize,
         body: usize,
+        low: usize,
         next: usize,
     },
     NoRule {
@@ -48,7 +49,7 @@ pub enum PoliciesRead {
 }
 
 // The head of the policy that the slice begins with.
-pub fn read_head(b: &[u8]) -> HeadRead
+fn read_head(b: &[u8]) -> HeadRead
     ensures { λ r. ⌜ head (now (b .entry)) ≡ headIn r ⌝ }
 {
     match fields::read_mark(b, 0, b"PH") {
@@ -166,7 +167,7 @@ fn read_condition(b: &[u8], v: Variable, at: usize) -> Step
 }
 
 // The number of ranks that node n has in a PN.
-pub fn rank_count(schema: &[u8], table: &[usize; 320], n: usize) -> usize
+pub fn rank_count(schema: &[u8], table: &[usize], n: usize) -> usize
     requires { ⌜ NodeIn (now schema) (now table) n ⌝ }
     ensures { λ r. ⌜ AtMost 8 (rankCount (nodeAt (schemaOf (now (schema .entry))) n)) r ⌝ }
 {
@@ -177,7 +178,7 @@ pub fn rank_count(schema: &[u8], table: &[usize; 320], n: usize) -> usize
 }
 
 // The conditions of node n's variables.
-fn read_conditions(schema: &[u8], table: &[usize; 320], n: usize, b: &[u8], from: usize) -> Step
+fn read_conditions(schema: &[u8], table: &[usize], n: usize, b: &[u8], from: usize) -> Step
     requires { ⌜ NodeIn (now schema) (now table) n ⌝ }
     ensures { λ r. ⌜ r ≡ stepOf (conditions (now (b .entry)) (nodeAt (schemaOf (now (schema .entry))) n .variables) from) ⌝ }
 {
@@ -200,7 +201,7 @@ fn read_conditions(schema: &[u8], table: &[usize; 320], n: usize, b: &[u8], from
 }
 
 // The ranks and conditions of node n, field by field.
-fn read_fields(schema: &[u8], table: &[usize; 320], n: usize, b: &[u8], from: usize) -> Step
+fn read_fields(schema: &[u8], table: &[usize], n: usize, b: &[u8], from: usize) -> Step
     requires { ⌜ NodeIn (now schema) (now table) n ⌝ }
     ensures { λ r. ⌜ r ≡ stepOf (ruleOf (now (b .entry)) (nodeAt (schemaOf (now (schema .entry))) n) n from) ⌝ }
 {
@@ -214,23 +215,13 @@ fn read_fields(schema: &[u8], table: &[usize; 320], n: usize, b: &[u8], from: us
     }
 }
 
-// Whether node n's variable k is a number.
-fn is_number(schema: &[u8], table: &[usize; 320], n: usize, k: usize) -> bool
-    requires { ⌜ NodeIn (now schema) (now table) n ⌝ }
-    requires { ⌜ k < length (nodeAt (schemaOf (now schema)) n .variables) ⌝ }
-    ensures { λ r. ⌜ r ≡ isNumber (variableAt (schemaOf (now (schema .entry))) n k) ⌝ }
-{
-    let at = table[64 + 4 * n + k];
-    schema[at] == 0
-}
-
 // The greatest number that the mask of node n's variable k may spell.
-fn most_of(schema: &[u8], table: &[usize; 320], n: usize, k: usize) -> usize
+fn most_of(schema: &[u8], table: &[usize], n: usize, k: usize) -> usize
     requires { ⌜ NodeIn (now schema) (now table) n ⌝ }
     requires { ⌜ k < length (nodeAt (schemaOf (now schema)) n .variables) ⌝ }
     ensures { λ r. ⌜ r ≡ mostOf (variableAt (schemaOf (now (schema .entry))) n k) ⌝ }
 {
-    if is_number(schema, table, n, k) {
+    if schema::is_number(schema, table, n, k) {
         return 0xffff_ffff;
     }
     match schema::variable_of(schema, table, n, k) {
@@ -245,8 +236,8 @@ fn most_of(schema: &[u8], table: &[usize; 320], n: usize, k: usize) -> usize
 }
 
 // Two numbers side by side.
-fn put_pair(layout: &mut [usize; 576], at: usize, x: usize, y: usize)
-    requires { ⌜ at + 1 < 576 ⌝ }
+fn put_pair(layout: &mut [usize], at: usize, x: usize, y: usize)
+    requires { ⌜ at + 1 < length (now layout) ⌝ }
     ensures { λ _. ⌜ now (layout .exit) ≡ set (set (now (layout .entry)) at x) (at + 1) y ⌝ }
 {
     layout[at] = x;
@@ -255,7 +246,7 @@ fn put_pair(layout: &mut [usize; 576], at: usize, x: usize, y: usize)
 
 // The layout of node n, after those below it: at n eight times the bytes of its ranks and conditions, and how many
 // variables there are up to the last listed one; from 64 + 8 n on the offset and the greatest number of each condition.
-fn lay_out(schema: &[u8], table: &[usize; 320], n: usize, layout: &mut [usize; 576])
+fn lay_out(schema: &[u8], table: &[usize], n: usize, layout: &mut [usize])
     requires { ⌜ NodeIn (now schema) (now table) n ⌝ }
     requires { ⌜ Laid (schemaOf (now schema)) n (now layout) ⌝ }
     ensures { λ _. ⌜ Laid (schemaOf (now (schema .entry))) (n + 1) (now (layout .exit)) ⌝ }
@@ -267,7 +258,7 @@ fn lay_out(schema: &[u8], table: &[usize; 320], n: usize, layout: &mut [usize; 5
     while k < v {
         let most = most_of(schema, table, n, k);
         put_pair(layout, 64 + 8 * n + 2 * k, w, most);
-        if is_number(schema, table, n, k) {
+        if schema::is_number(schema, table, n, k) {
             w += 8;
             k += 1;
         } else {
@@ -280,21 +271,20 @@ fn lay_out(schema: &[u8], table: &[usize; 320], n: usize, layout: &mut [usize; 5
 }
 
 // The layout of all nodes.
-fn layout_of(schema: &[u8], table: &[usize; 320], count: usize) -> [usize; 576]
+fn lay_all(schema: &[u8], table: &[usize], count: usize, layout: &mut [usize])
     requires { ⌜ SchemaIn (now schema) (now table) count ⌝ }
-    ensures { λ r. ⌜ Laid (schemaOf (now (schema .entry))) count r ⌝ }
+    requires { ⌜ Laid (schemaOf (now schema)) 0 (now layout) ⌝ }
+    ensures { λ _. ⌜ Laid (schemaOf (now (schema .entry))) count (now (layout .exit)) ⌝ }
 {
-    let mut layout = [0usize; 576];
     let mut n: usize = 0;
     while n < count {
-        lay_out(schema, table, n, &mut layout);
+        lay_out(schema, table, n, layout);
         n += 1;
     }
-    layout
 }
 
 // Whether no condition of node n up to the last listed one exceeds its greatest number; all of them are there.
-fn none_over(layout: &[usize; 576], n: usize, looks: usize, b: &[u8], from: usize) -> bool
+fn none_over(layout: &[usize], n: usize, looks: usize, b: &[u8], from: usize) -> bool
     requires { ⌜ Looking (now layout) (now b) n looks from ⌝ }
     ensures { λ r. ⌜ r ≡ noneOver (now (layout .entry)) (now (b .entry)) n from looks ⌝ }
 {
@@ -310,21 +300,48 @@ fn none_over(layout: &[usize; 576], n: usize, looks: usize, b: &[u8], from: usiz
     true
 }
 
+// What the layout holds of a node, and the lowest node that may follow it.
+struct Shape {
+    shape: usize,
+    low: usize,
+}
+
+// As a rule a PN names the lowest node that may follow the one before. What the layout holds of that is known ahead, so
+// that the place of the next PN need not wait for this one's node.
+fn shape_of(layout: &[usize], n: usize, low: usize, ahead: usize) -> Shape
+    requires { ⌜ ahead ≡ getD (now layout) low 0 ⌝ }
+    requires { ⌜ n < 64 ⌝ }
+    requires { ⌜ n < length (now layout) ⌝ }
+    ensures { λ r. ⌜ (r .shape ≡ getD (now (layout .entry)) n 0) × (r .low ≡ n + 1) ⌝ }
+{
+    if n == low {
+        return Shape {
+            shape: ahead,
+            low: low + 1,
+        };
+    }
+    Shape {
+        shape: layout[n],
+        low: n + 1,
+    }
+}
+
 // The ranks and conditions of node n: by one test of the length where all is well, else field by field.
 fn read_body(
     schema: &[u8],
-    table: &[usize; 320],
-    layout: &[usize; 576],
+    table: &[usize],
+    layout: &[usize],
     n: usize,
+    shape: usize,
     b: &[u8],
     from: usize,
 ) -> Step
     requires { ⌜ NodeIn (now schema) (now table) n ⌝ }
     requires { ⌜ Laid (schemaOf (now schema)) (length (schemaOf (now schema))) (now layout) ⌝ }
+    requires { ⌜ shape ≡ getD (now layout) n 0 ⌝ }
     requires { ⌜ from ≤ length (now b) ⌝ }
     ensures { λ r. ⌜ r ≡ stepOf (ruleOf (now (b .entry)) (nodeAt (schemaOf (now (schema .entry))) n) n from) ⌝ }
 {
-    let shape = layout[n];
     if shape / 8 <= b.len() - from {
         if none_over(layout, n, shape % 8, b, from) {
             return Step::Next {
@@ -339,15 +356,17 @@ fn read_body(
 // A PN, of a node not below low.
 fn read_rule(
     schema: &[u8],
-    table: &[usize; 320],
-    layout: &[usize; 576],
+    table: &[usize],
+    layout: &[usize],
     count: usize,
     b: &[u8],
     low: usize,
+    ahead: usize,
     from: usize,
 ) -> RuleRead
     requires { ⌜ SchemaIn (now schema) (now table) count ⌝ }
     requires { ⌜ Laid (schemaOf (now schema)) count (now layout) ⌝ }
+    requires { ⌜ ahead ≡ getD (now layout) low 0 ⌝ }
     ensures { λ r. ⌜ r ≡ ruleRead from (rule (schemaOf (now (schema .entry))) (now (b .entry)) low from) ⌝ }
 {
     match fields::read_mark(b, from, b"PN") {
@@ -368,9 +387,15 @@ fn read_rule(
                         offset: at,
                     };
                 }
-                match read_body(schema, table, layout, node, b, body) {
+                let x = shape_of(layout, node, low, ahead);
+                match read_body(schema, table, layout, node, x.shape, b, body) {
                     Step::Bad { number, offset } => RuleRead::NoRule { number, offset },
-                    Step::Next { at: next } => RuleRead::Named { node, body, next },
+                    Step::Next { at: next } => RuleRead::Named {
+                        node,
+                        body,
+                        low: x.low,
+                        next,
+                    },
                 }
             }
         },
@@ -380,31 +405,39 @@ fn read_rule(
 // The n PN of policy j, put into the index.
 fn read_rules(
     schema: &[u8],
-    table: &[usize; 320],
-    layout: &[usize; 576],
+    table: &[usize],
+    layout: &[usize],
     count: usize,
     b: &[u8],
     j: usize,
     n: u32,
     from: usize,
-    index: &mut [usize; 1040],
+    index: &mut [usize],
 ) -> Step
     requires { ⌜ SchemaIn (now schema) (now table) count ⌝ }
     requires { ⌜ Laid (schemaOf (now schema)) count (now layout) ⌝ }
     requires { ⌜ j < 16 ⌝ }
+    requires { ⌜ Long (now schema) (now index) ⌝ }
     ensures { λ r. ⌜ outcome r (now (index .exit)) ≡ runOf (fillRules j from) (rules (schemaOf (now (schema .entry))) (now (b .entry)) n 0 from) (now (index .entry)) ⌝ }
 {
     let mut left = n;
     let mut low: usize = 0;
+    let mut ahead = layout[0];
     let mut at = from;
     while 0 < left {
-        match read_rule(schema, table, layout, count, b, low, at) {
+        match read_rule(schema, table, layout, count, b, low, ahead, at) {
             RuleRead::NoRule { number, offset } => {
                 return Step::Bad { number, offset };
             }
-            RuleRead::Named { node, body, next } => {
-                index[64 * j + node] = body;
-                low = node + 1;
+            RuleRead::Named {
+                node,
+                body,
+                low: above,
+                next,
+            } => {
+                index[16 + 16 * node + j] = body;
+                low = above;
+                ahead = layout[above];
                 at = next;
                 left -= 1;
             }
@@ -416,18 +449,19 @@ fn read_rules(
 // Policy j, on its own stretch of the file p, from its head on.
 fn read_policy(
     schema: &[u8],
-    table: &[usize; 320],
-    layout: &[usize; 576],
+    table: &[usize],
+    layout: &[usize],
     count: usize,
     p: &[u8],
     head: usize,
     j: usize,
-    index: &mut [usize; 1040],
+    index: &mut [usize],
 ) -> Step
     requires { ⌜ SchemaIn (now schema) (now table) count ⌝ }
     requires { ⌜ Laid (schemaOf (now schema)) count (now layout) ⌝ }
     requires { ⌜ j < 16 ⌝ }
     requires { ⌜ head ≤ length (now p) ⌝ }
+    requires { ⌜ Long (now schema) (now index) ⌝ }
     ensures { λ r. ⌜ outcome r (now (index .exit)) ≡ runOf (fillPolicy j head) (policy (schemaOf (now (schema .entry))) (drop head (now (p .entry)))) (now (index .entry)) ⌝ }
 {
     match head_from(p, head) {
@@ -438,7 +472,7 @@ fn read_policy(
             count: n,
             next,
         } => {
-            index[1024 + j] = head;
+            index[j] = head;
             read_rules(schema, table, layout, count, &p[head..], j, n, next, index)
         }
     }
@@ -447,14 +481,15 @@ fn read_policy(
 // The whole file: checked, and put into the index.
 fn read_file(
     schema: &[u8],
-    table: &[usize; 320],
-    layout: &[usize; 576],
+    table: &[usize],
+    layout: &[usize],
     count: usize,
     p: &[u8],
-    index: &mut [usize; 1040],
+    index: &mut [usize],
 ) -> PoliciesRead
     requires { ⌜ SchemaIn (now schema) (now table) count ⌝ }
     requires { ⌜ Laid (schemaOf (now schema)) count (now layout) ⌝ }
+    requires { ⌜ Long (now schema) (now index) ⌝ }
     ensures { λ r. ⌜ fileOutcome r (now (index .exit)) ≡ fileRun 0 0 (policies (schemaOf (now (schema .entry))) (now (p .entry))) (now (index .entry)) ⌝ }
 {
     let mut j: usize = 0;
@@ -482,26 +517,60 @@ fn read_file(
     PoliciesRead::Policies { count: j }
 }
 
-// The whole file: how many policies it has, and the index of their rules; a refusal leaves the index as it was.
-pub fn read_policies(
+// An index that holds nothing.
+fn clear(index: &mut [usize])
+    ensures { λ _. ⌜ now (index .exit) ≡ replicate (length (now (index .entry))) 0 ⌝ }
+{
+    let mut i: usize = 0;
+    while i < index.len() {
+        index[i] = 0;
+        i += 1;
+    }
+}
+
+// The whole file, by a layout that is lent; a refusal leaves the index blank.
+fn read_by_layout(
     schema: &[u8],
-    table: &[usize; 320],
+    table: &[usize],
+    layout: &mut [usize],
     count: usize,
     p: &[u8],
-    index: &mut [usize; 1040],
+    index: &mut [usize],
 ) -> PoliciesRead
     requires { ⌜ SchemaIn (now schema) (now table) count ⌝ }
-    requires { ⌜ now index ≡ blank ⌝ }
+    requires { ⌜ Laid (schemaOf (now schema)) 0 (now layout) ⌝ }
+    requires { ⌜ IndexRoom (now schema) (now index) ⌝ }
     ensures { λ r. ⌜ Told (now (schema .entry)) (now (p .entry)) r (now (index .exit)) ⌝ }
 {
-    let layout = layout_of(schema, table, count);
-    match read_file(schema, table, &layout, count, p, index) {
+    lay_all(schema, table, count, layout);
+    match read_file(schema, table, layout, count, p, index) {
         PoliciesRead::Policies { count } => PoliciesRead::Policies { count },
         PoliciesRead::Refused { number, offset } => {
-            *index = [0usize; 1040];
+            clear(index);
             PoliciesRead::Refused { number, offset }
         }
     }
+}
+
+// The whole file: how many policies it has, and the index of their rules; a refusal leaves the index blank. Few nodes need
+// a short layout.
+pub fn read_policies(
+    schema: &[u8],
+    table: &[usize],
+    count: usize,
+    p: &[u8],
+    index: &mut [usize],
+) -> PoliciesRead
+    requires { ⌜ SchemaIn (now schema) (now table) count ⌝ }
+    requires { ⌜ IndexRoom (now schema) (now index) ⌝ }
+    ensures { λ r. ⌜ Told (now (schema .entry)) (now (p .entry)) r (now (index .exit)) ⌝ }
+{
+    if count <= 8 {
+        let mut layout = [0usize; 128];
+        return read_by_layout(schema, table, &mut layout, count, p, index);
+    }
+    let mut layout = [0usize; 576];
+    read_by_layout(schema, table, &mut layout, count, p, index)
 }
 
 // Whether a pass may have these days: 12 if not.
@@ -524,11 +593,11 @@ pub fn check_pass(a: u16, b: u16) -> Step
 }
 
 // Whether policy j is in force in the pass from a to b.
-pub fn in_force(schema: &[u8], p: &[u8], index: &[usize; 1040], j: usize, a: u16, b: u16) -> bool
+fn in_force(schema: &[u8], p: &[u8], index: &[usize], j: usize, a: u16, b: u16) -> bool
     requires { ⌜ PolicyIn (now schema) (now p) (now index) j ⌝ }
     ensures { λ r. ⌜ r ≡ inForce a b (policyOf (now (schema .entry)) (now (p .entry)) j) ⌝ }
 {
-    let head = index[1024 + j];
+    let head = index[j];
     match head_from(p, head) {
         HeadRead::NoHead {
             number: _,
@@ -555,7 +624,7 @@ pub fn in_force(schema: &[u8], p: &[u8], index: &[usize; 1040], j: usize, a: u16
 pub fn list_in_force(
     schema: &[u8],
     p: &[u8],
-    index: &[usize; 1040],
+    index: &[usize],
     count: usize,
     a: u16,
     b: u16,
@@ -588,15 +657,15 @@ fn byte_at(b: &[u8], at: usize, k: usize) -> u8
 }
 
 // The rank of node n's successor k in policy j.
-pub fn rank_of(schema: &[u8], p: &[u8], index: &[usize; 1040], j: usize, n: usize, k: usize) -> u8
+pub fn rank_of(schema: &[u8], p: &[u8], index: &[usize], j: usize, n: usize, k: usize) -> u8
     requires { ⌜ PolicyIn (now schema) (now p) (now index) j ⌝ }
     requires { ⌜ RankIn (now schema) n k ⌝ }
     ensures { λ r. ⌜ r ≡ rankOf (policyOf (now (schema .entry)) (now (p .entry)) j) n k ⌝ }
 {
-    let at = index[64 * j + n];
+    let at = index[16 + 16 * n + j];
     if at == 0 {
         return 0;
     }
-    let head = index[1024 + j];
+    let head = index[j];
     byte_at(&p[head..], at, k)
 }

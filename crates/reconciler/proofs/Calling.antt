@@ -1,30 +1,31 @@
 -- The call: files and pass in turn, then the plan's file placed in the buffer, or 13.
 -- Rests on the readers' contracts, on what the passes leave, and on the model's answer-by-plan.
 use mathlib.Core.Path.{_≡_, refl, ap, ap₂, sym, subst, _∙_}
-use mathlib.Core.Bool.{Bool, true, false, cond}
-use mathlib.Core.List.{List, [], _∷_}
-use mathlib.Core.Option.{Option, none, some}
-use Prim.Native.Nat.{ℕ, zero, suc, _+_, _*_, _≤_, _<_}
+use mathlib.Core.Bool.{true, false}
+use mathlib.Core.List.{List, _++_}
+use mathlib.Core.Option.{some}
+use Prim.Native.Nat.{ℕ, _≤_, _<_}
 use native.Mathlib.Omega.{arith}
-use borrow.Author.Tests.{eq-eqb, ne-eqb}
-use lib.Dec.{eqb}
+use native.Mathlib.Nat.{zero-add}
+use borrow.Author.Tests.{eq-eqb, ne-eqb, le-leb}
 use lib.IntN.{ℤ}
-use lib.ListN.{length, getD, take, replicate, length-replicate, getD-replicate}
+use lib.ListN.{length, getD, take, drop, replicate, length-replicate, getD-replicate}
 use Rattle.fields.specs.Reading.{Got, got, bad}
+use Rattle.fields.specs.Writing.{put, Wrote}
 use Rattle.fields.specs.Answers.{stepOf, success, refusal}
-use Rattle.fields.specs.Outcomes.{Outcome, Did, judgedIn, placed, refused}
+use Rattle.fields.specs.Outcomes.{Did, judgedIn, placed}
 use Rattle.fields.specs.declared.Answer.{Answer}
 use Rattle.fields.specs.declared.Step.{Step}
 use Rattle.fields.specs.declared.Step.the-variants.{Next, Bad}
 use Rattle.fields.proofs.Bytes.{Bytes}
 use Rattle.fields.proofs.Reading.{stepped, stopped}
-use Rattle.schema.specs.Schema.{Node, schema, schemaOf, nodeAt}
-use Rattle.schema.specs.Table.{tableOf, Accepted, AtMost}
+use Rattle.schema.specs.Schema.{schema, schemaOf}
+use Rattle.schema.specs.Table.{Tabled, Accepted, AtMost}
 use Rattle.schema.proofs.Sound.{Sound}
 use Rattle.schema.proofs.Accepted.{sound, schema-got}
 use Rattle.policies.specs.Policies.{Policy, policies, policiesOf, policiesIn}
 use Rattle.policies.specs.Pass.{pass, forced}
-use Rattle.policies.specs.Index.{indexOf, Indexed}
+use Rattle.policies.specs.Index.{Indexed}
 use Rattle.policies.specs.Answers.{SchemaIn, Told, policiesRead}
 use Rattle.policies.proofs.Nodes.{nodes-few}
 use Rattle.policies.specs.declared.PoliciesRead.{PoliciesRead}
@@ -32,9 +33,8 @@ use Rattle.policies.specs.declared.PoliciesRead.the-variants.{Policies, Refused
 use Rattle.instances.specs.Instance.{Entry}
 use Rattle.instances.specs.File.{encode}
 use Rattle.instances.specs.Plan.{planned, planOf}
-use Rattle.instances.specs.Writer.{Wrote}
 use Rattle.instances.proofs.Writer.{written-most, written-is}
-use Rattle.model.specs.Reconciling.{can, plan, reconcile, reconciled, rulesOf}
+use Rattle.model.specs.Reconciling.{can, plan, reconcile, reconciled}
 use Rattle.model.proofs.Reconciler.{answer-by-plan}
 use Rattle.model.proofs.Right.{lawful}
 use Rattle.order.specs.Order.{inSet}
@@ -51,6 +51,17 @@ module _ (schema : List ℕ) (choices bits file c : List ℕ) {n : ℕ}
   pub write-did : (out : List ℕ) {r : Answer} {after : List ℕ} → Did (placed (take n c) out) r after
       → Did (placed (encode (schemaOf schema) (planned (schemaOf schema) (planOf (schemaOf schema) choices bits))) out) r after
   write-did out {r} {after} k = subst (λ (l : List ℕ). Did (placed l out) r after) (written-is (encode (schemaOf schema) (planned (schemaOf schema) (planOf (schemaOf schema) choices bits))) w) k
+
+  -- at once, in a buffer long enough for any
+  pub write-at-once : Accepted schema → Bytes schema → 1283 ≤ length file
+      → Did (placed (encode (schemaOf schema) (planned (schemaOf schema) (planOf (schemaOf schema) choices bits))) file) (success n) c
+  unfolding placed put
+  write-at-once a y h =
+      let bs = encode (schemaOf schema) (planned (schemaOf schema) (planOf (schemaOf schema) choices bits)) in
+      let e : n ≡ length bs = w .next ∙ zero-add (length bs) in
+      let l : length bs ≤ length file = let z = written-most schema (planOf (schemaOf schema) choices bits) a y w in omega arith in
+      rw (le-leb (length bs) (length file) l)
+      (record { answer = ap success e; buffer = w .holds ∙ ap (λ (i : ℕ). bs ++ drop i file) (zero-add (length bs)) })
 
 -- ---- the tables before the first node
 
@@ -140,5 +151,5 @@ module _ (s p out : List ℕ) (a b : ℕ) {x : Step} (e : x ≡ stepOf (schema s
   unfolding reconciling judgedIn
   schema-accepted h k = rw (schema-got s e h) k
 
-pub schema-in : (s t : List ℕ) {count : ℕ} → t ≡ tableOf (schemaOf s) → AtMost 64 (length (schemaOf s)) count → SchemaIn s t count
+pub schema-in : (s t : List ℕ) {count : ℕ} → Tabled s t → AtMost 64 (length (schemaOf s)) count → SchemaIn s t count
 schema-in s t e m = record { table = e; counted = m .is }

@@ -1,32 +1,33 @@
 -- One node's plan: the least values left, then the successor taken or all successors met.
 -- Rests on the laws of its parts and on the model's step.
-use mathlib.Core.Path.{_≡_, refl, ap, ap₂, sym, subst, _∙_}
+use mathlib.Core.Path.{_≡_, refl, ap, sym, subst, _∙_}
 use mathlib.Core.Logic.{_⊎_, inl, inr}
-use mathlib.Core.Bool.{Bool, true, false, cond, _&&_}
-use mathlib.Core.List.{List, [], _∷_}
+use mathlib.Core.Bool.{Bool, true, false}
+use mathlib.Core.List.{List, []}
 use mathlib.Core.Option.{Option, none, some, Option·getD}
-use Prim.Native.Nat.{ℕ, zero, suc, _+_, _-_, _*_, _≤_, _<_}
+use Prim.Native.Nat.{ℕ, _*_, _≤_, _<_}
 use native.Mathlib.Omega.{arith}
-use borrow.Author.Tests.{lt-ltb, le-ltb, eqb-true, eq-eqb}
+use borrow.Author.Tests.{lt-ltb, le-ltb}
 use lib.Dec.{eqb, ltb}
 use lib.IntN.{ℤ}
-use lib.ListN.{length, getD}
+use lib.ListN.{length}
 use Rattle.fields.proofs.Tests.{and-true, never}
-use Rattle.schema.specs.Schema.{Node, schemaOf, nodeAt}
+use Rattle.schema.specs.Schema.{schemaOf, nodeAt}
 use Rattle.schema.specs.Table.{NodeIn, AtMost, SuccessorIs}
 use Rattle.schema.proofs.Accepted.{file-of}
-use Rattle.policies.specs.Policies.{Policy, Condition, rankCount, policiesOf}
-use Rattle.policies.specs.Pass.{forced}
+use Rattle.policies.specs.Policies.{rankCount}
 use Rattle.instances.specs.Instance.{chooses}
 use Rattle.instances.specs.Plan.{valuesFrom}
 use Rattle.model.specs.Satisfaction.{every}
-use Rattle.model.specs.Reconciling.{isSome, leastEach, combined, taken, canStep, rulesOf}
+use Rattle.model.specs.Reconciling.{isSome, leastEach, taken, canStep}
 use Rattle.order.specs.Order.{inSet}
 use Rattle.conditions.specs.Held.{conditionsIn, Combined}
 use Rattle.conditions.specs.declared.Conditions.{Conditions}
 use Rattle.reconciler.specs.Plan.{LeastIn, Columns, columnOf, Chosen, rulesIn, NodePlanned}
-use Rattle.reconciler.specs.declared.Plan.{Plan}
 use Rattle.reconciler.specs.declared.Plan.the-variants.{Unmet, Met, Take}
+
+pub node-below : (schema table : List ℕ) (n : ℕ) → NodeIn schema table n → n < length (schemaOf schema)
+node-below schema table n h = h .below
 
 -- a node that chooses has a rank for each successor
 pub node-columns : (schema table : List ℕ) (n : ℕ) {columns : ℕ} {t : Bool} → NodeIn schema table n → AtMost 8 (length (nodeAt (schemaOf schema) n .successors)) columns

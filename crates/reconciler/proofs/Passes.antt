@@ -1,23 +1,22 @@
 -- The pass from the highest node to 0: a table that is right above a node gives what is right at it.
 -- Rests on the model's can-by-table and taken-by-table, and on what one node's plan leaves.
 use mathlib.Core.Path.{_≡_, refl, ap, ap₂, sym, subst, _∙_}
-use mathlib.Core.Logic.{_⊎_, inl, inr}
-use mathlib.Core.Bool.{Bool, true, false, cond}
+use mathlib.Core.Logic.{inr}
+use mathlib.Core.Bool.{true, cond}
 use mathlib.Core.List.{List, [], _∷_}
-use mathlib.Core.Option.{Option, none, some, Option·getD}
-use Prim.Native.Nat.{ℕ, zero, suc, _+_, _-_, _*_, _≤_, _<_}
+use mathlib.Core.Option.{Option, Option·getD}
+use Prim.Native.Nat.{ℕ, suc, _+_, _-_, _*_, _≤_, _<_}
 use native.Mathlib.Omega.{arith}
 use native.Mathlib.Nat.{add-zero}
 use native.Mathlib.Decide.{decLt}
-use borrow.Author.Tests.{eq-eqb}
 use lib.Dec.{eqb}
 use lib.IntN.{ℤ}
-use lib.ListN.{length, getD, set, replicate, length-set, length-replicate, getD-replicate}
+use lib.ListN.{length, getD, set, length-set}
 use lib.Seq.{getD-set-same, getD-set-other}
 use Rattle.fields.proofs.Bytes.{Bytes}
 use Rattle.fields.proofs.Tests.{never}
-use Rattle.schema.specs.Schema.{Node, schemaOf, nodeAt}
-use Rattle.schema.specs.Table.{NodeIn, AtMost}
+use Rattle.schema.specs.Schema.{schemaOf, nodeAt}
+use Rattle.schema.specs.Table.{NodeIn}
 use Rattle.schema.specs.declared.Variable.{Variable}
 use Rattle.schema.proofs.Sound.{Sound}
 use Rattle.schema.proofs.Access.{node-small}
@@ -26,7 +25,7 @@ use Rattle.policies.specs.Answers.{SchemaIn}
 use Rattle.instances.specs.Instance.{chooses}
 use Rattle.instances.specs.File.{valueOf}
 use Rattle.instances.specs.Plan.{valuesFrom}
-use Rattle.model.specs.Reconciling.{taken, canStep, can, plan}
+use Rattle.model.specs.Reconciling.{can, plan}
 use Rattle.model.proofs.Reconciler.{can-by-table, taken-by-table}
 use Rattle.order.specs.Order.{inSet}
 use Rattle.reconciler.specs.Plan.{metBy, choiceBy, rulesIn, NodePlanned, Planned}

@@ -1,15 +1,15 @@
 -- The column that the order picks is that of the successor which the model takes.
 -- Rests on the model's ranks by column and on `best` over a strict and total order.
-use mathlib.Core.Path.{_≡_, refl, ap, ap₂, sym, subst, _∙_}
-use mathlib.Core.Bool.{Bool, true, false, cond, not, _&&_}
+use mathlib.Core.Path.{_≡_, refl, ap, sym, subst, _∙_}
+use mathlib.Core.Bool.{Bool, true, false, not, _&&_}
 use mathlib.Core.List.{List, [], _∷_}
 use mathlib.Core.Option.{Option, none, some, Option·getD}
-use Prim.Native.Nat.{ℕ, zero, suc, _+_, _-_, _*_, _≤_, _<_}
+use Prim.Native.Nat.{ℕ, suc, _+_, _≤_, _<_}
 use native.Mathlib.Omega.{arith}
 use native.Mathlib.Nat.{add-zero, zero-add}
 use native.Mathlib.Numerals.{add-one}
-use borrow.Author.Tests.{lt-ltb, le-ltb, eq-eqb, ne-eqb}
-use lib.Dec.{eqb, ltb}
+use borrow.Author.Tests.{lt-ltb, eq-eqb, ne-eqb}
+use lib.Dec.{eqb}
 use lib.ListN.{length, getD, drop, drop-of-length-le}
 use lib.Seq.{drop-cons}
 use Rattle.fields.proofs.Bytes.{Bytes}
@@ -18,18 +18,18 @@ use Rattle.schema.specs.Schema.{Node, schemaOf, nodeAt}
 use Rattle.schema.specs.Table.{NodeIn, AtMost, SuccessorIs}
 use Rattle.schema.proofs.Sound.{Sound}
 use Rattle.schema.proofs.Accepted.{sound}
-use Rattle.policies.specs.Policies.{Policy, noPolicy, rankOf, policiesOf, policyAt}
+use Rattle.policies.specs.Policies.{Policy, rankOf, policiesOf, policyAt}
 use Rattle.policies.specs.Pass.{forced}
 use Rattle.instances.specs.Instance.{elem}
 use Rattle.model.specs.Satisfaction.{every, allowed}
 use Rattle.model.specs.Order.{betterBy, better}
 use Rattle.model.specs.Reconciling.{best, taken, rulesOf}
-use Rattle.model.proofs.Lists.{at-elem, elem-at, Place}
-use Rattle.model.proofs.Successors.{Top, IsBest, no-best, a-best, best-is, best-at, best-none-at}
+use Rattle.model.proofs.Lists.{at-elem, elem-at}
+use Rattle.model.proofs.Successors.{IsBest, no-best, a-best, best-is, best-at, best-none-at}
 use Rattle.model.proofs.Ranks.{allowed-at, better-at, better-strict, better-total}
 use Rattle.order.specs.Order.{countUp, rankIn, betterIn, allowedIn, inSet, firstColumn, Picked}
 use Rattle.order.proofs.Best.{in-strict, count-length, count-of}
-use Rattle.conditions.specs.Held.{InForce}
+use Rattle.conditions.specs.Places.{Found}
 use Rattle.reconciler.specs.Plan.{Columns, Ranked, SuccessorsIn, columnOf, Chosen}
 
 -- ---- the table says what the policies say
@@ -153,8 +153,8 @@ module _ (schema : List ℕ) (A : Sound (schemaOf schema)) (ps : List Policy) (n
       let w = takes (best ok (betterIn t rows) (countUp columns 0)) (best-is ok (betterIn t rows) (in-strict t rows) (countUp columns 0)) in
       (ap (columnOf (schemaOf schema) n) (P .is) ∙ w .is, subst (λ (x : ℕ). x < 8 → x < length (nodeAt (schemaOf schema) n .successors)) (sym (P .is)) (w .inside))
 
-pub chosen-is : (schema table p : List ℕ) (a b n : ℕ) (list nodes set t : List ℕ) {rows columns r : ℕ} → NodeIn schema table n → Bytes schema → InForce schema p list rows a b → Columns schema n columns
+pub chosen-is : (schema table p : List ℕ) (a b n : ℕ) (places nodes set t : List ℕ) {rows columns r : ℕ} → NodeIn schema table n → Bytes schema → Found schema p a b n rows places → Columns schema n columns
     → Ranked (forced a b (policiesOf (schemaOf schema) p)) n rows columns t → SuccessorsIn (schemaOf schema) n columns nodes set → Picked t rows set columns r → Chosen schema p a b n nodes r
-chosen-is schema table p a b n list nodes set t {rows} {columns} {r} h y f c R S P =
+chosen-is schema table p a b n places nodes set t {rows} {columns} {r} h y f c R S P =
     let w = picked-takes schema (sound schema y (let z = h .below in omega arith)) (forced a b (policiesOf (schemaOf schema) p)) n columns rows t nodes set c (f .rows-is) R S P in
     record { is = w .0; inside = w .1 }

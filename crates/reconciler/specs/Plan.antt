@@ -1,14 +1,14 @@
 -- What the passes over the nodes leave in their tables.
-use Prim.Native.Nat.{ℕ, zero, suc, _+_, _*_, _<_, _≤_}
+use Prim.Native.Nat.{ℕ, _+_, _*_, _<_, _≤_}
 use mathlib.Core.Path.{_≡_}
 use mathlib.Core.Logic.{_⊎_}
 use mathlib.Core.Bool.{Bool, true, false, cond}
-use mathlib.Core.List.{List, [], _∷_}
+use mathlib.Core.List.{List, []}
 use mathlib.Core.Option.{Option, none, some, Option·getD}
 use lib.ListN.{length, getD}
 use lib.Dec.{eqb, ltb}
 use lib.Count.{trailingZeros}
-use lib.IntN.{ℤ, pos}
+use lib.IntN.{pos}
 use lib.Signed.{leZ}
 use Rattle.fields.specs.Reading.{signed}
 use Rattle.fields.specs.Writing.{unsigned}
@@ -53,6 +53,12 @@ pub record Columns (schema : List ℕ) (n columns : ℕ) : Type 0 where
   pub is : columns ≡ length (nodeAt (schemaOf schema) n .successors)
   pub ranked : columns ≡ rankCount (nodeAt (schemaOf schema) n)
   pub most : columns ≤ 8
+
+-- row j has the first k bytes of s from a place on, and those before it stay
+pub record RowCopied (s : List ℕ) (at j k : ℕ) (t₀ t : List ℕ) : Type 0 where
+  pub each : (i : ℕ) → i < k → rankIn t j i ≡ getD s (at + i) 0
+  pub before : (i : ℕ) → i < 8 * j → getD t i 0 ≡ getD t₀ i 0
+  pub long : length t ≡ length t₀
 
 -- row j has what it shall have, and those before it stay
 pub record RowFilled (q : Policy) (n j columns : ℕ) (t₀ t : List ℕ) : Type 0 where

@@ -1,13 +1,13 @@
 // The reconciler: nodes from the highest to 0, each once; then the reached ones from 0 up.
 ghost use mathlib.Core.Path.{_≡_};
-ghost use Prim.Native.Nat.{ℕ, _+_, _*_, _<_, _≤_};
-ghost use lib.ListN.{length, getD};
+ghost use Prim.Native.Nat.{_+_, _*_, _<_, _≤_};
+ghost use lib.ListN.{length};
 ghost use Rattle.schema.specs.Schema.{schemaOf, nodeAt};
 ghost use Rattle.fields.specs.Outcomes.{Did, placed};
-ghost use Rattle.schema.specs.Table.{NodeIn, Accepted, tableOf};
-ghost use Rattle.policies.specs.Policies.{policiesOf, rankCount};
+ghost use Rattle.schema.specs.Table.{NodeIn, Accepted, Tabled, Room, AtMost};
+ghost use Rattle.policies.specs.Policies.{policiesOf, policyAt, rankCount, rankOf};
 ghost use Rattle.policies.specs.Pass.{forced};
-ghost use Rattle.policies.specs.Index.{PolicyIn, policyOf, indexOf, Indexed};
+ghost use Rattle.policies.specs.Index.{IndexIn, Indexed, IndexRoom};
 ghost use Rattle.policies.specs.Answers.{SchemaIn};
 ghost use Rattle.instances.specs.File.{encode};
 ghost use Rattle.instances.specs.Plan.{planned, planOf};
@@ -15,8 +15,9 @@ ghost use Rattle.model.specs.Satisfaction.{every};
 ghost use Rattle.model.specs.Reconciling.{reconciled};
 ghost use Rattle.order.specs.Order.{inSet};
 ghost use Rattle.conditions.specs.Held.{InForce};
+ghost use Rattle.conditions.specs.Places.{SaidAt, Found};
 ghost use Rattle.calls.specs.Calls.{given, underSchema, reconciling};
-ghost use Rattle.reconciler.specs.Plan.{LeftIs, LeastIn, Columns, Ranked, RowFilled, SuccessorsIn, Chosen, NodePlanned, Planned};
+ghost use Rattle.reconciler.specs.Plan.{LeftIs, LeastIn, Columns, Ranked, RowCopied, RowFilled, SuccessorsIn, Chosen, NodePlanned, Planned};
 use conditions::Conditions;
 use fields::Answer;
 use fields::Step;
@@ -61,7 +62,7 @@ fn left_in(c: Conditions, k: usize, number: bool) -> Left
 // The bits of node n's least values into its four places; whether each variable has one left.
 fn least_values(
     schema: &[u8],
-    table: &[usize; 320],
+    table: &[usize],
     n: usize,
     c: Conditions,
     bits: &mut [u32; 256],
@@ -86,36 +87,68 @@ fn least_values(
     true
 }
 
-// Row j: the ranks of node n's successors in a policy.
-fn gather_row(
-    schema: &[u8],
-    p: &[u8],
-    index: &[usize; 1040],
-    policy: usize,
-    n: usize,
-    columns: usize,
-    j: usize,
-    ranks: &mut [u8; 128],
-)
-    requires { ⌜ PolicyIn (now schema) (now p) (now index) policy ⌝ }
-    requires { ⌜ Columns (now schema) n columns ⌝ }
+// The rank of node n's successor k in policy j of those in force, which speaks of the node from a place on.
+fn rank_at(schema: &[u8], p: &[u8], a: u16, b: u16, j: usize, n: usize, at: usize, k: usize) -> u8
+    requires { ⌜ SaidAt (schemaOf (now schema)) (now p) (policyAt (forced a b (policiesOf (schemaOf (now schema)) (now p))) j) n at ⌝ }
+    requires { ⌜ k < rankCount (nodeAt (schemaOf (now schema)) n) ⌝ }
+    ensures { λ r. ⌜ r ≡ rankOf (policyAt (forced a b (policiesOf (schemaOf (now (schema .entry))) (now (p .entry)))) j) n k ⌝ }
+{
+    if at == 0 {
+        return 0;
+    }
+    p[at + k]
+}
+
+// Row j: the eight bytes from a place on.
+fn copy_row(p: &[u8], at: usize, j: usize, ranks: &mut [u8; 128])
+    requires { ⌜ at + 8 ≤ length (now p) ⌝ }
     requires { ⌜ j < 16 ⌝ }
     requires { ⌜ length (now ranks) ≡ 128 ⌝ }
-    ensures { λ _. ⌜ RowFilled (policyOf (now (schema .entry)) (now (p .entry)) policy) n j columns (now (ranks .entry)) (now (ranks .exit)) ⌝ }
+    ensures { λ _. ⌜ RowCopied (now (p .entry)) at j 8 (now (ranks .entry)) (now (ranks .exit)) ⌝ }
 {
     let mut k: usize = 0;
-    while k < columns {
-        ranks[8 * j + k] = policies::rank_of(schema, p, index, policy, n, k);
+    while k < 8 {
+        ranks[8 * j + k] = p[at + k];
         k += 1;
     }
 }
 
-// The ranks of node n's successors in the policies in force, each found once.
+// Row j: the ranks of node n's successors in policy j of those in force; eight bytes at once, where there are so many.
+fn gather_row(
+    schema: &[u8],
+    p: &[u8],
+    a: u16,
+    b: u16,
+    j: usize,
+    n: usize,
+    at: usize,
+    columns: usize,
+    ranks: &mut [u8; 128],
+)
+    requires { ⌜ SaidAt (schemaOf (now schema)) (now p) (policyAt (forced a b (policiesOf (schemaOf (now schema)) (now p))) j) n at ⌝ }
+    requires { ⌜ Columns (now schema) n columns ⌝ }
+    requires { ⌜ j < 16 ⌝ }
+    requires { ⌜ length (now ranks) ≡ 128 ⌝ }
+    ensures { λ _. ⌜ RowFilled (policyAt (forced a b (policiesOf (schemaOf (now (schema .entry))) (now (p .entry)))) j) n j columns (now (ranks .entry)) (now (ranks .exit)) ⌝ }
+{
+    if 0 < at {
+        if 8 <= p.len() - at {
+            copy_row(p, at, j, ranks);
+            return;
+        }
+    }
+    let mut k: usize = 0;
+    while k < columns {
+        ranks[8 * j + k] = rank_at(schema, p, a, b, j, n, at, k);
+        k += 1;
+    }
+}
+
+// The ranks of node n's successors in the policies in force.
 fn gather(
     schema: &[u8],
     p: &[u8],
-    index: &[usize; 1040],
-    list: &[usize; 16],
+    places: &[usize; 16],
     rows: usize,
     a: u16,
     b: u16,
@@ -123,15 +156,14 @@ fn gather(
     columns: usize,
     ranks: &mut [u8; 128],
 )
-    requires { ⌜ now index ≡ indexOf (policiesOf (schemaOf (now schema)) (now p)) ⌝ }
-    requires { ⌜ InForce (now schema) (now p) (now list) rows a b ⌝ }
+    requires { ⌜ Found (now schema) (now p) a b n rows (now places) ⌝ }
     requires { ⌜ Columns (now schema) n columns ⌝ }
     requires { ⌜ length (now ranks) ≡ 128 ⌝ }
     ensures { λ _. ⌜ Ranked (forced a b (policiesOf (schemaOf (now (schema .entry))) (now (p .entry)))) n rows columns (now (ranks .exit)) ⌝ }
 {
     let mut j: usize = 0;
     while j < rows {
-        gather_row(schema, p, index, list[j], n, columns, j, ranks);
+        gather_row(schema, p, a, b, j, n, places[j], columns, ranks);
         j += 1;
     }
 }
@@ -139,7 +171,7 @@ fn gather(
 // Which of node n's successors are in a set of nodes.
 fn fill_set(
     schema: &[u8],
-    table: &[usize; 320],
+    table: &[usize],
     n: usize,
     columns: usize,
     nodes: &[u8; 64],
@@ -161,10 +193,9 @@ fn fill_set(
 // The successor that node n takes, of those in a set of nodes: its column, 8 for none.
 fn choose(
     schema: &[u8],
-    table: &[usize; 320],
+    table: &[usize],
     p: &[u8],
-    index: &[usize; 1040],
-    list: &[usize; 16],
+    places: &[usize; 16],
     rows: usize,
     a: u16,
     b: u16,
@@ -173,20 +204,19 @@ fn choose(
     nodes: &[u8; 64],
 ) -> usize
     requires { ⌜ NodeIn (now schema) (now table) n ⌝ }
-    requires { ⌜ now index ≡ indexOf (policiesOf (schemaOf (now schema)) (now p)) ⌝ }
-    requires { ⌜ InForce (now schema) (now p) (now list) rows a b ⌝ }
+    requires { ⌜ Found (now schema) (now p) a b n rows (now places) ⌝ }
     requires { ⌜ Columns (now schema) n columns ⌝ }
     ensures { λ r. ⌜ Chosen (now (schema .entry)) (now (p .entry)) a b n (now (nodes .entry)) r ⌝ }
 {
     let mut ranks = [0u8; 128];
-    gather(schema, p, index, list, rows, a, b, n, columns, &mut ranks);
+    gather(schema, p, places, rows, a, b, n, columns, &mut ranks);
     let mut set = [0u8; 8];
     fill_set(schema, table, n, columns, nodes, &mut set);
     order::pick(&ranks, rows, columns, &set)
 }
 
 // Whether all of node n's successors are in a set of nodes.
-fn all_in(schema: &[u8], table: &[usize; 320], n: usize, nodes: &[u8; 64]) -> bool
+fn all_in(schema: &[u8], table: &[usize], n: usize, nodes: &[u8; 64]) -> bool
     requires { ⌜ NodeIn (now schema) (now table) n ⌝ }
     ensures { λ r. ⌜ r ≡ every (inSet (now (nodes .entry))) (nodeAt (schemaOf (now (schema .entry))) n .successors) ⌝ }
 {
@@ -202,13 +232,12 @@ fn all_in(schema: &[u8], table: &[usize; 320], n: usize, nodes: &[u8; 64]) -> bo
     true
 }
 
-// What is done at node n, where a set tells which nodes above it can be met.
-fn plan_node(
+// What is done at node n, where a set tells which nodes above it can be met; the policies' places are found.
+fn plan_at(
     schema: &[u8],
-    table: &[usize; 320],
+    table: &[usize],
     p: &[u8],
-    index: &[usize; 1040],
-    list: &[usize; 16],
+    places: &[usize; 16],
     rows: usize,
     a: u16,
     b: u16,
@@ -217,16 +246,15 @@ fn plan_node(
     bits: &mut [u32; 256],
 ) -> Plan
     requires { ⌜ NodeIn (now schema) (now table) n ⌝ }
-    requires { ⌜ now index ≡ indexOf (policiesOf (schemaOf (now schema)) (now p)) ⌝ }
-    requires { ⌜ InForce (now schema) (now p) (now list) rows a b ⌝ }
+    requires { ⌜ Found (now schema) (now p) a b n rows (now places) ⌝ }
     requires { ⌜ length (now bits) ≡ 256 ⌝ }
     ensures { λ r. ⌜ NodePlanned (now (schema .entry)) (now (p .entry)) a b n (now (nodes .entry)) (now (bits .entry)) (now (bits .exit)) r ⌝ }
 {
-    let c = conditions::combine(schema, table, p, index, list, rows, a, b, n);
+    let c = conditions::combine(schema, table, p, places, rows, a, b, n);
     if least_values(schema, table, n, c, bits) {
         if instances::chooses(schema, table, n) {
             let columns = schema::successor_count(schema, table, n);
-            let k = choose(schema, table, p, index, list, rows, a, b, n, columns, nodes);
+            let k = choose(schema, table, p, places, rows, a, b, n, columns, nodes);
             if k < 8 {
                 return Plan::Take {
                     successor: schema::successor_of(schema, table, n, k),
@@ -242,13 +270,38 @@ fn plan_node(
     Plan::Unmet
 }
 
+// What is done at node n, where a set tells which nodes above it can be met.
+fn plan_node(
+    schema: &[u8],
+    table: &[usize],
+    p: &[u8],
+    index: &[usize],
+    list: &[usize; 16],
+    rows: usize,
+    a: u16,
+    b: u16,
+    n: usize,
+    nodes: &[u8; 64],
+    bits: &mut [u32; 256],
+) -> Plan
+    requires { ⌜ NodeIn (now schema) (now table) n ⌝ }
+    requires { ⌜ IndexIn (now schema) (now p) (now index) ⌝ }
+    requires { ⌜ InForce (now schema) (now p) (now list) rows a b ⌝ }
+    requires { ⌜ length (now bits) ≡ 256 ⌝ }
+    ensures { λ r. ⌜ NodePlanned (now (schema .entry)) (now (p .entry)) a b n (now (nodes .entry)) (now (bits .entry)) (now (bits .exit)) r ⌝ }
+{
+    let mut places = [0usize; 16];
+    conditions::find(schema, p, index, list, rows, a, b, n, &mut places);
+    plan_at(schema, table, p, &places, rows, a, b, n, nodes, bits)
+}
+
 // What is done at each node, from the highest to 0.
 fn plan_all(
     schema: &[u8],
-    table: &[usize; 320],
+    table: &[usize],
     count: usize,
     p: &[u8],
-    index: &[usize; 1040],
+    index: &[usize],
     list: &[usize; 16],
     rows: usize,
     a: u16,
@@ -258,7 +311,7 @@ fn plan_all(
     bits: &mut [u32; 256],
 )
     requires { ⌜ SchemaIn (now schema) (now table) count ⌝ }
-    requires { ⌜ now index ≡ indexOf (policiesOf (schemaOf (now schema)) (now p)) ⌝ }
+    requires { ⌜ IndexIn (now schema) (now p) (now index) ⌝ }
     requires { ⌜ InForce (now schema) (now p) (now list) rows a b ⌝ }
     requires { ⌜ Planned (now schema) (now p) a b count (now nodes) (now choices) (now bits) ⌝ }
     ensures { λ _. ⌜ Planned (now (schema .entry)) (now (p .entry)) a b 0 (now (nodes .exit)) (now (choices .exit)) (now (bits .exit)) ⌝ }
@@ -279,17 +332,17 @@ fn plan_all(
     }
 }
 
-// The file of the plan that the tables hold, placed in the buffer.
-fn write_plan(
+// The file of the plan that the tables hold, by way of a local one, since the buffer may be shorter.
+fn write_short(
     schema: &[u8],
-    table: &[usize; 320],
+    table: &[usize],
     choices: &[u8; 64],
     bits: &[u32; 256],
     file: &mut [u8],
     out: &mut [u8],
 ) -> Answer
     requires { ⌜ Accepted (now schema) ⌝ }
-    requires { ⌜ now table ≡ tableOf (schemaOf (now schema)) ⌝ }
+    requires { ⌜ Tabled (now schema) (now table) ⌝ }
     requires { ⌜ 1283 ≤ length (now file) ⌝ }
     ensures { λ r. ⌜ Did (placed (encode (schemaOf (now (schema .entry))) (planned (schemaOf (now (schema .entry))) (planOf (schemaOf (now (schema .entry))) (now (choices .entry)) (now (bits .entry))))) (now (out .entry))) r (now (out .exit)) ⌝ }
 {
@@ -297,13 +350,84 @@ fn write_plan(
     instances::place(file, n, out)
 }
 
+// The file of the plan that the tables hold, placed in the buffer: at once, where that is long enough for any.
+fn write_plan(
+    schema: &[u8],
+    table: &[usize],
+    choices: &[u8; 64],
+    bits: &[u32; 256],
+    out: &mut [u8],
+) -> Answer
+    requires { ⌜ Accepted (now schema) ⌝ }
+    requires { ⌜ Tabled (now schema) (now table) ⌝ }
+    ensures { λ r. ⌜ Did (placed (encode (schemaOf (now (schema .entry))) (planned (schemaOf (now (schema .entry))) (planOf (schemaOf (now (schema .entry))) (now (choices .entry)) (now (bits .entry))))) (now (out .entry))) r (now (out .exit)) ⌝ }
+{
+    if 1283 <= out.len() {
+        return Answer {
+            number: 0,
+            file: 0,
+            offset: 0,
+            value: instances::write_planned(schema, table, choices, bits, out),
+        };
+    }
+    let mut file = [0u8; 1283];
+    write_short(schema, table, choices, bits, &mut file, out)
+}
+
+// The instance for the listed policies in force, or none.
+fn settle_listed(
+    schema: &[u8],
+    table: &[usize],
+    count: usize,
+    p: &[u8],
+    index: &[usize],
+    list: &[usize; 16],
+    rows: usize,
+    a: u16,
+    b: u16,
+    out: &mut [u8],
+) -> Answer
+    requires { ⌜ Accepted (now schema) ⌝ }
+    requires { ⌜ SchemaIn (now schema) (now table) count ⌝ }
+    requires { ⌜ IndexIn (now schema) (now p) (now index) ⌝ }
+    requires { ⌜ InForce (now schema) (now p) (now list) rows a b ⌝ }
+    ensures { λ r. ⌜ Did (given (schemaOf (now (schema .entry))) (now (out .entry)) (reconciled (schemaOf (now (schema .entry))) (forced a b (policiesOf (schemaOf (now (schema .entry))) (now (p .entry)))))) r (now (out .exit)) ⌝ }
+{
+    let mut nodes = [0u8; 64];
+    let mut choices = [255u8; 64];
+    let mut bits = [0u32; 256];
+    plan_all(
+        schema,
+        table,
+        count,
+        p,
+        index,
+        list,
+        rows,
+        a,
+        b,
+        &mut nodes,
+        &mut choices,
+        &mut bits,
+    );
+    if nodes[0] == 1 {
+        return write_plan(schema, table, &choices, &bits, out);
+    }
+    Answer {
+        number: 13,
+        file: 0,
+        offset: 0,
+        value: 0,
+    }
+}
+
 // The instance for the policies in force, or none; the files and the pass are accepted.
 fn settle(
     schema: &[u8],
-    table: &[usize; 320],
+    table: &[usize],
     count: usize,
     p: &[u8],
-    index: &[usize; 1040],
+    index: &[usize],
     policies: usize,
     a: u16,
     b: u16,
@@ -316,44 +440,26 @@ fn settle(
 {
     let mut list = [0usize; 16];
     let rows = policies::list_in_force(schema, p, index, policies, a, b, &mut list);
-    let mut nodes = [0u8; 64];
-    let mut choices = [255u8; 64];
-    let mut bits = [0u32; 256];
-    plan_all(
-        schema,
-        table,
-        count,
-        p,
-        index,
-        &list,
-        rows,
-        a,
-        b,
-        &mut nodes,
-        &mut choices,
-        &mut bits,
-    );
-    if nodes[0] == 1 {
-        let mut file = [0u8; 1283];
-        return write_plan(schema, table, &choices, &bits, &mut file, out);
-    }
-    Answer {
-        number: 13,
-        file: 0,
-        offset: 0,
-        value: 0,
-    }
+    settle_listed(schema, table, count, p, index, &list, rows, a, b, out)
 }
 
-// Policies and pass, the schema being accepted.
-fn reconcile_under(schema: &[u8], p: &[u8], a: u16, b: u16, out: &mut [u8]) -> Answer
+// Policies and pass, the schema being accepted and its table filled.
+fn reconcile_read(
+    schema: &[u8],
+    table: &[usize],
+    count: usize,
+    p: &[u8],
+    a: u16,
+    b: u16,
+    index: &mut [usize],
+    out: &mut [u8],
+) -> Answer
     requires { ⌜ Accepted (now schema) ⌝ }
+    requires { ⌜ SchemaIn (now schema) (now table) count ⌝ }
+    requires { ⌜ IndexRoom (now schema) (now index) ⌝ }
     ensures { λ r. ⌜ Did (underSchema (schemaOf (now (schema .entry))) (now (p .entry)) a b (now (out .entry))) r (now (out .exit)) ⌝ }
 {
-    let table = schema::table_of(schema);
-    let count = schema::count_of(schema);
-    let mut index = [0usize; 1040];
-    match policies::read_policies(schema, &table, count, p, &mut index) {
+    match policies::read_policies(schema, table, count, p, index) {
         PoliciesRead::Refused { number, offset } => Answer {
             number,
             file: 2,
@@ -367,11 +473,51 @@ fn reconcile_under(schema: &[u8], p: &[u8], a: u16, b: u16, out: &mut [u8]) -> A
                 offset,
                 value: 0,
             },
-            Step::Next { at: _ } => {
-                settle(schema, &table, count, p, &index, policies, a, b, out)
-            }
+            Step::Next { at: _ } => settle(schema, table, count, p, index, policies, a, b, out),
         },
     }
+}
+
+// Policies and pass, the schema being accepted, in tables that are lent.
+fn reconcile_in(
+    schema: &[u8],
+    count: usize,
+    p: &[u8],
+    a: u16,
+    b: u16,
+    table: &mut [usize],
+    index: &mut [usize],
+    out: &mut [u8],
+) -> Answer
+    requires { ⌜ Accepted (now schema) ⌝ }
+    requires { ⌜ AtMost 64 (length (schemaOf (now schema))) count ⌝ }
+    requires { ⌜ Room (now schema) (now table) ⌝ }
+    requires { ⌜ IndexRoom (now schema) (now index) ⌝ }
+    ensures { λ r. ⌜ Did (underSchema (schemaOf (now (schema .entry))) (now (p .entry)) a b (now (out .entry))) r (now (out .exit)) ⌝ }
+{
+    schema::fill_table(schema, table);
+    reconcile_read(schema, table, count, p, a, b, index, out)
+}
+
+// Policies and pass, the schema being accepted; a schema of few nodes has short tables, which are sooner cleared.
+fn reconcile_under(schema: &[u8], p: &[u8], a: u16, b: u16, out: &mut [u8]) -> Answer
+    requires { ⌜ Accepted (now schema) ⌝ }
+    ensures { λ r. ⌜ Did (underSchema (schemaOf (now (schema .entry))) (now (p .entry)) a b (now (out .entry))) r (now (out .exit)) ⌝ }
+{
+    let count = schema::count_of(schema);
+    if count <= 4 {
+        let mut table = [0usize; 80];
+        let mut index = [0usize; 80];
+        return reconcile_in(schema, count, p, a, b, &mut table, &mut index, out);
+    }
+    if count <= 16 {
+        let mut table = [0usize; 128];
+        let mut index = [0usize; 272];
+        return reconcile_in(schema, count, p, a, b, &mut table, &mut index, out);
+    }
+    let mut table = [0usize; 320];
+    let mut index = [0usize; 1040];
+    reconcile_in(schema, count, p, a, b, &mut table, &mut index, out)
 }
 
 // The instance for schema, policies and pass into the buffer, or a refusal.

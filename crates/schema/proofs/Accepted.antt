@@ -1,7 +1,7 @@
 -- An accepted schema file: where each node's record stands, and that its nodes are sound.
 -- Rests on node-back, over all nodes.
 use mathlib.Core.Path.{_≡_, refl, ap, sym, subst, _∙_}
-use mathlib.Core.Bool.{Bool, true, false, cond, _&&_}
+use mathlib.Core.Bool.{_&&_}
 use mathlib.Core.List.{List, [], _∷_}
 use Prim.Native.Nat.{ℕ, zero, suc, _+_, _≤_, _<_}
 use native.Mathlib.Omega.{arith}
@@ -9,17 +9,17 @@ use native.Mathlib.Nat.{add-zero, zero-add}
 use borrow.Author.Tests.{leb-true, ltb-true}
 use lib.Dec.{leb, ltb}
 use lib.ListN.{length, getD}
-use Rattle.fields.specs.Reading.{Got, got, bad, part, be, field, many, ended}
+use Rattle.fields.specs.Reading.{Got, got, bad, be, many}
 use Rattle.fields.specs.Answers.{stepOf}
 use Rattle.fields.specs.declared.Step.{Step}
-use Rattle.fields.specs.declared.Step.the-variants.{Next, Bad}
+use Rattle.fields.specs.declared.Step.the-variants.{Next}
 use Rattle.fields.proofs.Tests.{and-true}
-use Rattle.fields.proofs.Reading.{stepped, stopped}
-use Rattle.fields.proofs.Back.{Went, went, Took, field-back, After, after-mark, Turn, many-back, many-none, many-length, ended-back, be1}
+use Rattle.fields.proofs.Reading.{stepped}
+use Rattle.fields.proofs.Back.{went, field-back, after-mark, many-back, many-none, many-length, ended-back, be1}
 use Rattle.fields.proofs.Bytes.{Bytes}
-use Rattle.schema.specs.Schema.{Node, SH, node, nodes, body, schema, nodesIn, schemaOf, noNode, nodeAt}
+use Rattle.schema.specs.Schema.{Node, SH, node, nodes, body, schema, nodesIn, schemaOf, nodeAt}
 use Rattle.schema.specs.Table.{nodeWidth, Accepted}
-use Rattle.schema.proofs.Sound.{Sound, SoundNode}
+use Rattle.schema.proofs.Sound.{Sound}
 use Rattle.schema.proofs.Node.{OneNode, node-back}
 
 -- where node j's record begins, if the first begins at p

@@ -3,24 +3,25 @@
 use mathlib.Core.Path.{_≡_, refl, ap, sym, subst, _∙_}
 use mathlib.Core.Bool.{Bool, true, false, cond}
 use mathlib.Core.List.{List, [], _∷_}
-use Prim.Native.Nat.{ℕ, zero, suc, _+_, _*_, _≤_, _<_}
+use Prim.Native.Nat.{ℕ, zero, suc, _+_, _*_, _^_, _≤_, _<_}
 use native.Mathlib.Omega.{arith}
 use borrow.Author.Tests.{eq-eqb, ne-eqb}
 use lib.Dec.{eqb}
 use lib.ListN.{length, getD}
-use Rattle.fields.specs.Reading.{Got, got, bad}
+use lib.IntN.{ℤ}
+use lib.Signed.{mag}
+use mir.Val.{toZ, ofZ}
+use mir.ValLaws.{toZ-ofZ}
+use mir.Syntax.{w32}
+use Rattle.fields.specs.Reading.{got, be, signed}
 use Rattle.fields.proofs.Bytes.{Bytes}
 use Rattle.schema.specs.Schema.{Node, schemaOf, nodeAt, noVariable, isNumber, variable}
-use Rattle.schema.specs.Table.{variableWidth, bodyOf, nodeWidth, tableOf, Accepted, NodeIn, AtMost, SuccessorIs}
-use Rattle.schema.specs.Answers.{variableIn}
+use Rattle.schema.specs.Table.{variableWidth, bodyOf, nodeWidth, widthAt, Accepted, NodeIn, AtMost, SuccessorIs}
 use Rattle.schema.specs.declared.Variable.{Variable}
-use Rattle.schema.specs.declared.VariableRead.{VariableRead}
-use Rattle.schema.specs.declared.VariableRead.the-variants.{Found, NoVariable}
 use Rattle.schema.specs.declared.Variable.the-variants.{Number, Listed}
 use Rattle.schema.proofs.Sound.{Rising, SoundNode}
-use Rattle.schema.proofs.Reader.{found, not-found}
-use Rattle.schema.proofs.Node.{OneNode, OneVariable, Variables, variablePlace, variable-back, variables-back}
-use Rattle.schema.proofs.Accepted.{nodePlace, File, file-of, view}
+use Rattle.schema.proofs.Node.{OneNode, OneVariable, variablePlace, variable-back, variables-back}
+use Rattle.schema.proofs.Accepted.{nodePlace, file-of, view}
 use Rattle.schema.proofs.Table.{table-node, table-variable}
 
 pub rising-at : (own count : ℕ) (xs : List ℕ) (j : ℕ) → Rising own count xs → j < length xs → (own < getD xs j 0) × (getD xs j 0 < count)
@@ -36,7 +37,7 @@ pub record Here (s t : List ℕ) (n : ℕ) (g : List Node) : Type 0 where
 pub here : (s t : List ℕ) (n : ℕ) → NodeIn s t n → Here s t n (schemaOf s)
 here s t n h =
     let f = file-of s (let z = h .below in omega arith) in
-    let e : getD t n 0 ≡ nodePlace 3 (schemaOf s) n = ap (λ (l : List ℕ). getD l n 0) (h .table) ∙ table-node (schemaOf s) n (h .below) (f .few) in
+    let e : getD t n 0 ≡ nodePlace 3 (schemaOf s) n = ap (λ (l : List ℕ). getD l n 0) (h .table .filled) ∙ table-node (length t) (schemaOf s) n (h .below) (f .few) (h .table .long) in
     let v = view s f n (h .below) in
     let o = subst (λ (p : ℕ). OneNode s (length (schemaOf s)) n p (nodeAt (schemaOf s) n) (nodePlace 3 (schemaOf s) (suc n))) (sym e) v in
     record { small = omega (arith, h .below, f .few); one = subst (OneNode s (length (schemaOf s)) n (getD t n 0) (nodeAt (schemaOf s) n)) (o .end) o }
@@ -45,6 +46,9 @@ here s t n h =
 module _ (s t : List ℕ) (n : ℕ) where
   pub node-small : NodeIn s t n → n < 64
   node-small h = here s t n h .small
+
+  pub node-room : NodeIn s t n → n < length t
+  node-room h = omega (arith, h .below, h .table .long)
 
   pub node-inside : NodeIn s t n → getD t n 0 + bodyOf (nodeAt (schemaOf s) n) ≤ length s
   node-inside h = here s t n h .one .inside
@@ -90,27 +94,11 @@ variable-here s t n k h l =
     let f = file-of s (let z = h .below in omega arith) in
     let o = view s f n (h .below) in
     let v = variables-back s (length (nodeAt (schemaOf s) n .variables)) (nodePlace 3 (schemaOf s) n + bodyOf (nodeAt (schemaOf s) n)) (o .vars) in
-    let e = ap (λ (l : List ℕ). getD l (64 + 4 * n + k) 0) (h .table) ∙ table-variable (schemaOf s) n k (h .below) l (few-here s t n h) (f .few) in
+    let e = ap (λ (l : List ℕ). getD l (64 + 4 * n + k) 0) (h .table .filled) ∙ table-variable (length t) (schemaOf s) n k (h .below) l (few-here s t n h) (f .few) (h .table .long) in
     (variablePlace (nodePlace 3 (schemaOf s) n + bodyOf (nodeAt (schemaOf s) n)) (nodeAt (schemaOf s) n .variables) (suc k), ap (variable s) e ∙ v .each k l)
 
-pub variable-at : (s t : List ℕ) (n k : ℕ) {f : VariableRead} {v : Variable} {q : ℕ} → NodeIn s t n → k < length (nodeAt (schemaOf s) n .variables)
-    → f ≡ variableIn (variable s (getD t (64 + 4 * n + k) 0)) → f ≡ Found v q → v ≡ getD (nodeAt (schemaOf s) n .variables) k noVariable
-variable-at s t n k h l e g =
-    let a = variable-here s t n k h l in
-    let b = found (variable s (getD t (64 + 4 * n + k) 0)) e g in
-    let c = a .1 in
-    cc
-
-pub variable-none : (s t : List ℕ) (n k : ℕ) {f : VariableRead} {m o : ℕ} {v : Variable} → NodeIn s t n → k < length (nodeAt (schemaOf s) n .variables)
-    → f ≡ variableIn (variable s (getD t (64 + 4 * n + k) 0)) → f ≡ NoVariable m o → v ≡ getD (nodeAt (schemaOf s) n .variables) k noVariable
-variable-none s t n k h l e g =
-    let a = variable-here s t n k h l in
-    let b = not-found (variable s (getD t (64 + 4 * n + k) 0)) e g in
-    let c = a .1 in
-    absurd (let z : _≡_ {A = ℕ} 0 1 = cc in omega arith)
-
-pub variable-small : (s t : List ℕ) (n k : ℕ) → NodeIn s t n → k < length (nodeAt (schemaOf s) n .variables) → 64 + 4 * n + k < 320
-variable-small s t n k h l = omega (arith, node-small s t n h, few-here s t n h)
+pub variable-small : (s t : List ℕ) (n k : ℕ) → NodeIn s t n → k < length (nodeAt (schemaOf s) n .variables) → 64 + 4 * n + k < length t
+variable-small s t n k h l = omega (arith, few-here s t n h, h .below, h .table .long)
 
 -- the count
 pub count-inside : (s : List ℕ) → Accepted s → 2 < length s
@@ -145,11 +133,35 @@ type-is s p (Listed size) e = go (eqb (getD s p 0) 0) e
     go false e = refl
 
 module _ (s t : List ℕ) (n k : ℕ) (h : NodeIn s t n) (l : k < length (nodeAt (schemaOf s) n .variables)) where
+  one-here : OneVariable s (getD t (64 + 4 * n + k) 0) (getD (nodeAt (schemaOf s) n .variables) k noVariable) (variable-here s t n k h l .0)
+  one-here = variable-back s (getD t (64 + 4 * n + k) 0) (variable-here s t n k h l .1)
+
   type-at : eqb (getD s (getD t (64 + 4 * n + k) 0) 0) 0 ≡ isNumber (getD (nodeAt (schemaOf s) n .variables) k noVariable)
-  type-at = type-is s (getD t (64 + 4 * n + k) 0) (getD (nodeAt (schemaOf s) n .variables) k noVariable) (variable-back s (getD t (64 + 4 * n + k) 0) (variable-here s t n k h l .1) .type)
+  type-at = type-is s (getD t (64 + 4 * n + k) 0) (getD (nodeAt (schemaOf s) n .variables) k noVariable) (one-here .type)
 
-  pub number-yes : getD s (getD t (64 + 4 * n + k) 0) 0 ≡ 0 → true ≡ isNumber (getD (nodeAt (schemaOf s) n .variables) k noVariable)
-  number-yes e = sym (eq-eqb (getD s (getD t (64 + 4 * n + k) 0) 0) 0 e) ∙ type-at
+  wide-at : getD t (64 + 4 * n + k) 0 + widthAt s (getD t (64 + 4 * n + k) 0) ≤ length s
+  wide-at = omega (arith, one-here .end, one-here .inside, one-here .type)
 
-  pub number-no : (getD s (getD t (64 + 4 * n + k) 0) 0 ≡ 0 → ⊥) → false ≡ isNumber (getD (nodeAt (schemaOf s) n .variables) k noVariable)
-  number-no e = sym (ne-eqb (getD s (getD t (64 + 4 * n + k) 0) 0) 0 e) ∙ type-at
+  module _ (e : getD s (getD t (64 + 4 * n + k) 0) 0 ≡ 0) where
+    pub number-yes : true ≡ isNumber (getD (nodeAt (schemaOf s) n .variables) k noVariable)
+    number-yes = sym (eq-eqb (getD s (getD t (64 + 4 * n + k) 0) 0) 0 e) ∙ type-at
+
+    pub number-inside : getD t (64 + 4 * n + k) 0 + 9 ≤ length s
+    number-inside = rw (eq-eqb (getD s (getD t (64 + 4 * n + k) 0) 0) 0 e) at wide-at
+
+    pub number-at : {lo hi : ℤ} → lo ≡ signed (be 4 s (getD t (64 + 4 * n + k) 0 + 1)) → hi ≡ signed (be 4 s (getD t (64 + 4 * n + k) 0 + 5))
+        → mag lo < 2 ^ 31 → mag hi < 2 ^ 31
+        → Number (toZ w32 (ofZ w32 lo)) (toZ w32 (ofZ w32 hi)) ≡ getD (nodeAt (schemaOf s) n .variables) k noVariable
+    number-at {lo} {hi} a b fl fh =
+        let z = rw (eq-eqb (getD s (getD t (64 + 4 * n + k) 0) 0) 0 e) at (one-here .is) in
+        rw (toZ-ofZ w32 lo (record { sfits = fl }), toZ-ofZ w32 hi (record { sfits = fh }), a, b) (sym z)
+
+  module _ (e : getD s (getD t (64 + 4 * n + k) 0) 0 ≡ 0 → ⊥) where
+    pub number-no : false ≡ isNumber (getD (nodeAt (schemaOf s) n .variables) k noVariable)
+    number-no = sym (ne-eqb (getD s (getD t (64 + 4 * n + k) 0) 0) 0 e) ∙ type-at
+
+    pub listed-inside : getD t (64 + 4 * n + k) 0 + 2 ≤ length s
+    listed-inside = rw (ne-eqb (getD s (getD t (64 + 4 * n + k) 0) 0) 0 e) at wide-at
+
+    pub listed-at : Listed (getD s (getD t (64 + 4 * n + k) 0 + 1) 0) ≡ getD (nodeAt (schemaOf s) n .variables) k noVariable
+    listed-at = sym (rw (ne-eqb (getD s (getD t (64 + 4 * n + k) 0) 0) 0 e) at (one-here .is))

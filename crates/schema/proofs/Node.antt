@@ -4,20 +4,19 @@ use mathlib.Core.Path.{_≡_, refl, ap, sym, subst, _∙_}
 use mathlib.Core.Logic.{_⊎_, inl, inr}
 use mathlib.Core.Bool.{Bool, true, false, cond, _&&_, _||_}
 use mathlib.Core.List.{List, [], _∷_}
-use Prim.Native.Nat.{ℕ, zero, suc, _+_, _^_, _≤_, _<_}
+use Prim.Native.Nat.{ℕ, zero, suc, _+_, _≤_, _<_}
 use native.Mathlib.Omega.{arith}
 use native.Mathlib.Nat.{add-zero}
-use borrow.Author.Tests.{leb-true, ltb-true, eqb-true, eqb-false, eq-eqb, ne-eqb}
+use borrow.Author.Tests.{leb-true, ltb-true, eqb-true}
 use lib.Dec.{leb, ltb, eqb}
 use lib.ListN.{length, getD}
-use lib.IntN.{ℤ}
 use lib.Signed.{leZ}
-use mir.Val.{SFits, Fits}
+use mir.Val.{Fits}
 use mir.ValLaws.{toZ-fits}
 use mir.Syntax.{w32}
-use Rattle.fields.specs.Reading.{Got, got, bad, part, be, whole, field, many, signed}
-use Rattle.fields.proofs.Tests.{and-true, or-true, never}
-use Rattle.fields.proofs.Back.{Went, went, Took, field-back, Passed, any-back, After, after-mark, Turn, many-back, many-none, many-length, be1}
+use Rattle.fields.specs.Reading.{Got, got, be, field, many, signed}
+use Rattle.fields.proofs.Tests.{and-true, or-true}
+use Rattle.fields.proofs.Back.{went, Took, field-back, any-back, after-mark, many-back, many-none, be1}
 use Rattle.fields.proofs.Bytes.{Bytes, be-below}
 use Rattle.schema.specs.Schema.{Node, SN, number, listed, variable, variables, variablesOf, successors, links, node, noVariable}
 use Rattle.schema.specs.Table.{variableWidth, variablesWidth, bodyOf, nodeWidth}
@@ -79,17 +78,19 @@ pub record OneVariable (s : List ℕ) (p : ℕ) (v : Variable) (q : ℕ) : Type 
   pub inside : q ≤ length s
   pub sound : Bytes s → SoundVariable v
   pub type : cond (eqb (getD s p 0) 0) 9 2 ≡ variableWidth v
+  pub is : v ≡ cond (eqb (getD s p 0) 0) (Number (signed (be 4 s (p + 1))) (signed (be 4 s (p + 5)))) (Listed (getD s (p + 1) 0))
 
 word-fits : (s : List ℕ) (p : ℕ) → Bytes s → Fits w32 (be 4 s p)
 word-fits s p b = record { fits = be-below 4 s p b }
 
-record Rest (s : List ℕ) (p n : ℕ) (v : Variable) (q : ℕ) : Type 0 where
+record Rest (s : List ℕ) (p n : ℕ) (v w : Variable) (q : ℕ) : Type 0 where
   end : q ≡ p + n
   inside : q ≤ length s
   wide : variableWidth v ≡ n + 1
   sound : Bytes s → SoundVariable v
+  is : v ≡ w
 
-number-back : (s : List ℕ) (p : ℕ) {v : Variable} {q : ℕ} → number s p ≡ got v q → Rest s p 8 v q
+number-back : (s : List ℕ) (p : ℕ) {v : Variable} {q : ℕ} → number s p ≡ got v q → Rest s p 8 v (Number (signed (be 4 s p)) (signed (be 4 s (p + 4)))) q
 unfolding number variableWidth
 number-back s p {v} {q} e =
     let l = any-back 4 s p _ e in
@@ -102,9 +103,10 @@ number-back s p {v} {q} e =
       inside = omega (arith, h .inside);
       wide = refl;
       sound = λ b. (toZ-fits w32 (be 4 s p) (word-fits s p b), toZ-fits w32 (be 4 s (p + 4)) (word-fits s (p + 4) b), h .rule-met);
+      is = refl;
     })
 
-listed-back : (s : List ℕ) (p : ℕ) {v : Variable} {q : ℕ} → listed s p ≡ got v q → Rest s p 1 v q
+listed-back : (s : List ℕ) (p : ℕ) {v : Variable} {q : ℕ} → listed s p ≡ got v q → Rest s p 1 v (Listed (be 1 s p)) q
 unfolding listed variableWidth
 listed-back s p {v} {q} e =
     let h = field-back 1 6 (λ n. ltb 0 n && leb n 32) s p _ e in
@@ -117,6 +119,7 @@ listed-back s p {v} {q} e =
       inside = omega (arith, h .inside);
       wide = refl;
       sound = λ b. (ltb-true 0 (be 1 s p) (r .0), leb-true (be 1 s p) 32 (r .1));
+      is = refl;
     })
 
 pub variable-back : (s : List ℕ) (p : ℕ) {v : Variable} {q : ℕ} → variable s p ≡ got v q → OneVariable s p v q
@@ -129,11 +132,14 @@ variable-back s p {v} {q} e =
     go true t e =
         let r = number-back s (p + 1) e in
         let y : eqb (getD s p 0) 0 ≡ true = rw (be1 s p) at t in
-        record { end = omega (arith, r .end, r .wide); inside = r .inside; sound = r .sound; type = rw y (sym (r .wide)) }
+        let z : p + 1 + 4 ≡ p + 5 = omega arith in
+        let w : v ≡ Number (signed (be 4 s (p + 1))) (signed (be 4 s (p + 5))) = r .is ∙ ap (λ (i : ℕ). Number (signed (be 4 s (p + 1))) (signed (be 4 s i))) z in
+        record { end = omega (arith, r .end, r .wide); inside = r .inside; sound = r .sound; type = rw y (sym (r .wide)); is = rw y w }
     go false t e =
         let r = listed-back s (p + 1) e in
         let y : eqb (getD s p 0) 0 ≡ false = rw (be1 s p) at t in
-        record { end = omega (arith, r .end, r .wide); inside = r .inside; sound = r .sound; type = rw y (sym (r .wide)) }
+        let w : v ≡ Listed (getD s (p + 1) 0) = r .is ∙ ap Listed (be1 s (p + 1)) in
+        record { end = omega (arith, r .end, r .wide); inside = r .inside; sound = r .sound; type = rw y (sym (r .wide)); is = rw y w }
 
 -- where variable k begins, if the first begins at p
 unfoldable pub variablePlace : ℕ → List Variable → ℕ → ℕ

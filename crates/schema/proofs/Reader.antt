@@ -1,52 +1,29 @@
--- The answers of the functions that read a variable, in the shape of what their returns ask.
+-- The answers of the functions that read a variable, and of the loops, in the shape of what their returns ask.
 -- Rests on the laws of reading of the crate fields.
-use mathlib.Core.Path.{_≡_, refl, ap, sym, _∙_}
-use mathlib.Core.Bool.{Bool, true, false, cond}
-use mathlib.Core.List.{List, [], _∷_}
+use mathlib.Core.Path.{_≡_, refl, _∙_}
+use mathlib.Core.Bool.{true, false}
+use mathlib.Core.List.{List}
 use Prim.Native.Nat.{ℕ, _+_, _-_, _^_, _≤_, _<_}
 use native.Mathlib.Omega.{arith}
-use borrow.Author.Tests.{le-leb, lt-leb, lt-ltb}
-use lib.Dec.{leb, eqb}
+use borrow.Author.Tests.{lt-leb, lt-ltb}
 use lib.IntN.{ℤ}
 use lib.Signed.{leZ, mag}
-use mir.Val.{toZ, ofZ, SFits}
+use mir.Val.{toZ, ofZ}
 use mir.ValLaws.{toZ-ofZ}
 use mir.Syntax.{w32}
-use Rattle.fields.specs.Reading.{Got, got, bad, part, whole, field, many, signed}
+use Rattle.fields.specs.Reading.{Got, got, bad, part, whole, field, signed}
 use Rattle.fields.specs.Answers.{fieldOf, signedOf, stepOf, judged, success, refusal}
 use Rattle.fields.specs.declared.Answer.{Answer}
 use Rattle.fields.specs.declared.Field.{Field}
-use Rattle.fields.specs.declared.Field.the-variants.{Value, Cut}
+use Rattle.fields.specs.declared.Field.the-variants.{Value}
 use Rattle.fields.specs.declared.SignedField.{SignedField}
 use Rattle.fields.specs.declared.SignedField.the-variants.{Signed, NoSigned}
 use Rattle.fields.specs.declared.Step.{Step}
 use Rattle.fields.specs.declared.Step.the-variants.{Next, Bad}
-use Rattle.fields.proofs.Reading.{values, field-ok, took, stepped, stopped}
-use Rattle.fields.proofs.Loops.{many-bad, many-more, many-done, many-stop, many-turn}
+use Rattle.fields.proofs.Reading.{field-ok, took, stepped, stopped}
+use Rattle.fields.proofs.Loops.{many-more, many-done, many-stop, many-turn}
 use Rattle.fields.proofs.Tests.{and-yes}
 use Rattle.schema.specs.Schema.{number, listed, variable, variables, successors, node, nodes}
-use Rattle.schema.specs.Answers.{variableIn}
-use Rattle.schema.specs.declared.Variable.{Variable}
-use Rattle.schema.specs.declared.Variable.the-variants.{Number, Listed}
-use Rattle.schema.specs.declared.VariableRead.{VariableRead}
-use Rattle.schema.specs.declared.VariableRead.the-variants.{Found, NoVariable}
-
-pub found-is : (g : Got Variable) {v : Variable} {q : ℕ} → g ≡ got v q → Found v q ≡ variableIn g
-found-is g e = rw e
-
-pub none-is : (g : Got Variable) {n o : ℕ} → g ≡ bad n o → NoVariable n o ≡ variableIn g
-none-is g e = rw e
-
-pub ruleset finding = (found-is, none-is, values)
-
--- and back
-pub found : (g : Got Variable) {f : VariableRead} {v : Variable} {q : ℕ} → f ≡ variableIn g → f ≡ Found v q → g ≡ got v q
-found (got a p) e h = cc
-found (bad n o) e h = cc
-
-pub not-found : (g : Got Variable) {f : VariableRead} {n o : ℕ} → f ≡ variableIn g → f ≡ NoVariable n o → g ≡ bad n o
-not-found (got a p) e h = cc
-not-found (bad n o) e h = cc
 
 -- a number's two bounds
 record Told (g : Got ℕ) (z : ℤ) (q : ℕ) : Type 0 where
@@ -63,27 +40,27 @@ untold (got a p) e h = cc
 untold (bad n o) e h = cc
 
 module _ (s : List ℕ) (p : ℕ) {u v p₁ q : ℕ} {lo hi : ℤ} (e : whole 4 s p ≡ got u p₁) (h : whole 4 s p₁ ≡ got v q) (a : lo ≡ signed u) (b : hi ≡ signed v) where
-  in-order : leZ lo hi ≡ true → Found (Number lo hi) q ≡ variableIn (number s p)
+  in-order : leZ lo hi ≡ true → Next q ≡ stepOf (number s p)
   unfolding number part field
-  in-order t = let k : leZ (signed u) (signed v) ≡ true = rw (a, b) at t in rw (e, h, k, a, b)
+  in-order t = let k : leZ (signed u) (signed v) ≡ true = rw (a, b) at t in rw (e, h, k)
 
-  out-of-order : leZ lo hi ≡ false → NoVariable 6 p₁ ≡ variableIn (number s p)
+  out-of-order : leZ lo hi ≡ false → Bad 6 p₁ ≡ stepOf (number s p)
   unfolding number part field
   out-of-order t = let k : leZ (signed u) (signed v) ≡ false = rw (a, b) at t in rw (e, h, k)
 
 module _ (s : List ℕ) (p : ℕ) {f : SignedField} where
-  pub lo-cut : {n o : ℕ} → f ≡ signedOf (whole 4 s p) → f ≡ NoSigned n o → NoVariable n o ≡ variableIn (number s p)
+  pub lo-cut : {n o : ℕ} → f ≡ signedOf (whole 4 s p) → f ≡ NoSigned n o → Bad n o ≡ stepOf (number s p)
   unfolding number part
   lo-cut e h = rw (untold (whole 4 s p) e h)
 
   module _ {lo : ℤ} {p₁ : ℕ} {f₁ : SignedField} (e : f ≡ signedOf (whole 4 s p)) (h : f ≡ Signed lo p₁) where
-    pub hi-cut : {n o : ℕ} → f₁ ≡ signedOf (whole 4 s p₁) → f₁ ≡ NoSigned n o → NoVariable n o ≡ variableIn (number s p)
+    pub hi-cut : {n o : ℕ} → f₁ ≡ signedOf (whole 4 s p₁) → f₁ ≡ NoSigned n o → Bad n o ≡ stepOf (number s p)
     unfolding number part field
     hi-cut e₁ h₁ = rw (told (whole 4 s p) e h .read, untold (whole 4 s p₁) e₁ h₁)
 
     pub hi-ok : {hi : ℤ} {q : ℕ} → f₁ ≡ signedOf (whole 4 s p₁) → f₁ ≡ Signed hi q → mag lo < 2 ^ 31 → mag hi < 2 ^ 31
         → leZ (toZ w32 (ofZ w32 lo)) (toZ w32 (ofZ w32 hi)) ≡ true
-        → Found (Number (toZ w32 (ofZ w32 lo)) (toZ w32 (ofZ w32 hi))) q ≡ variableIn (number s p)
+        → Next q ≡ stepOf (number s p)
     hi-ok {hi} {q} e₁ h₁ fl fh t =
         let a = told (whole 4 s p) e h in
         let b = told (whole 4 s p₁) e₁ h₁ in
@@ -93,7 +70,7 @@ module _ (s : List ℕ) (p : ℕ) {f : SignedField} where
 
     pub hi-bad : {hi : ℤ} {q : ℕ} → f₁ ≡ signedOf (whole 4 s p₁) → f₁ ≡ Signed hi q → mag lo < 2 ^ 31 → mag hi < 2 ^ 31
         → leZ (toZ w32 (ofZ w32 lo)) (toZ w32 (ofZ w32 hi)) ≡ false
-        → NoVariable 6 p₁ ≡ variableIn (number s p)
+        → Bad 6 p₁ ≡ stepOf (number s p)
     hi-bad {hi} {q} e₁ h₁ fl fh t =
         let a = told (whole 4 s p) e h in
         let b = told (whole 4 s p₁) e₁ h₁ in
@@ -105,30 +82,29 @@ pub ruleset bounds = (lo-cut, hi-cut, hi-ok, hi-bad)
 
 -- a variable's type
 module _ (s : List ℕ) (p : ℕ) {f : Field} where
-  pub type-number : {v q : ℕ} {r : VariableRead} → f ≡ fieldOf (whole 1 s p) → f ≡ Value v q → v ≡ 0 → r ≡ variableIn (number s q)
-      → r ≡ variableIn (variable s p)
+  pub type-number : {v q : ℕ} {r : Step} → f ≡ fieldOf (whole 1 s p) → f ≡ Value v q → v ≡ 0 → r ≡ stepOf (number s q)
+      → r ≡ stepOf (variable s p)
   unfolding variable field part
   type-number e h a k = rw (took (whole 1 s p) e h, a) k
 
-  pub type-listed : {v q : ℕ} {r : VariableRead} → f ≡ fieldOf (whole 1 s p) → f ≡ Value v q → v ≡ 1 → r ≡ variableIn (listed s q)
-      → r ≡ variableIn (variable s p)
+  pub type-listed : {v q : ℕ} {r : Step} → f ≡ fieldOf (whole 1 s p) → f ≡ Value v q → v ≡ 1 → r ≡ stepOf (listed s q)
+      → r ≡ stepOf (variable s p)
   unfolding variable field part
   type-listed e h a k = rw (took (whole 1 s p) e h, a) k
 
-  pub type-other : {v q : ℕ} → f ≡ fieldOf (whole 1 s p) → f ≡ Value v q → (v ≡ 0 → ⊥) → (v ≡ 1 → ⊥) → NoVariable 6 p ≡ variableIn (variable s p)
+  pub type-other : {v q : ℕ} → f ≡ fieldOf (whole 1 s p) → f ≡ Value v q → (v ≡ 0 → ⊥) → (v ≡ 1 → ⊥) → Bad 6 p ≡ stepOf (variable s p)
   unfolding variable field part
   type-other {v} e h a b = rw (took (whole 1 s p) e h, lt-leb v 1 (omega arith))
 
 -- one turn of the loop over a node's variables, and over its successors
-module _ (s : List ℕ) (k p : ℕ) {f : VariableRead} {X : Step} where
-  pub variables-bad : {n o : ℕ} → stepOf (variables s k p) ≡ X → 0 < k → f ≡ variableIn (variable s p) → f ≡ NoVariable n o → Bad n o ≡ X
+module _ (s : List ℕ) (k p : ℕ) {f X : Step} where
+  pub variables-bad : {n o : ℕ} → stepOf (variables s k p) ≡ X → 0 < k → f ≡ stepOf (variable s p) → f ≡ Bad n o → Bad n o ≡ X
   unfolding variables
-  variables-bad i h e g = many-bad {S = ℕ} (λ _ p. variable s p) (λ i _. i) k 0 p i h (not-found (variable s p) e g)
+  variables-bad i h e g = many-stop {S = ℕ} (λ _ p. variable s p) (λ i. i) k 0 p i h e g
 
-  pub variables-more : {v : Variable} {q : ℕ} → stepOf (variables s k p) ≡ X → 0 < k → f ≡ variableIn (variable s p) → f ≡ Found v q
-      → stepOf (variables s (k - 1) q) ≡ X
+  pub variables-more : {q : ℕ} → stepOf (variables s k p) ≡ X → 0 < k → f ≡ stepOf (variable s p) → f ≡ Next q → stepOf (variables s (k - 1) q) ≡ X
   unfolding variables
-  variables-more i h e g = many-more {S = ℕ} (λ _ p. variable s p) (λ i _. i) k 0 p i h (found (variable s p) e g)
+  variables-more i h e g = many-turn {S = ℕ} (λ _ p. variable s p) (λ i. i) k 0 p i h e g
 
 pub successors-more : (s : List ℕ) (n k above p : ℕ) {f : Field} {v q : ℕ} {X : Step} → stepOf (successors s n above k p) ≡ X → 0 < k
     → f ≡ fieldOf (whole 1 s p) → f ≡ Value v q → above < v → v < n → stepOf (successors s n v (k - 1) q) ≡ X

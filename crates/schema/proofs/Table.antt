@@ -1,6 +1,6 @@
 -- The table of places: what stands at each place that the fold of stores has filled.
 -- Rests on the laws of a store in a list.
-use mathlib.Core.Path.{_≡_, refl, ap, sym, _∙_}
+use mathlib.Core.Path.{_≡_, refl, ap, _∙_}
 use mathlib.Core.Logic.{_⊎_, inl, inr}
 use mathlib.Core.List.{List, [], _∷_}
 use Prim.Native.Nat.{ℕ, zero, suc, _+_, _*_, _≤_, _<_}
@@ -8,7 +8,7 @@ use native.Mathlib.Omega.{arith}
 use native.Mathlib.Nat.{add-zero, zero-add}
 use lib.ListN.{length, getD, set, replicate, length-set, length-replicate}
 use lib.Seq.{getD-set-same, getD-set-other}
-use Rattle.schema.specs.Schema.{Node, nodeAt, schemaOf}
+use Rattle.schema.specs.Schema.{Node, nodeAt}
 use Rattle.schema.specs.Table.{variableWidth, bodyOf, nodeWidth, fillVariables, fillNodes, tableOf}
 use Rattle.schema.specs.declared.Variable.{Variable}
 use Rattle.schema.proofs.Node.{variablePlace}
@@ -70,7 +70,7 @@ nodes-other n p (x ∷ g) t i l h =
     ∙ variables-other n 0 (p + bodyOf x) (x .variables) (set t n p) i (u .0)
     ∙ getD-set-other t n i p 0 (u .1)
 
-nodes-at : (n p : ℕ) (g : List Node) (t : List ℕ) (j : ℕ) → j < length g → n + length g ≤ 64 → length t ≡ 320
+nodes-at : (n p : ℕ) (g : List Node) (t : List ℕ) (j : ℕ) → j < length g → n + length g ≤ 64 → 64 + 4 * (n + length g) ≤ length t
     → getD (fillNodes n p g t) (n + j) 0 ≡ nodePlace p g j
 unfolding fillNodes nodePlace
 nodes-at n p [] t j h l e = absurd (omega arith)
@@ -82,11 +82,11 @@ nodes-at n p (x ∷ g) t zero h l e =
 nodes-at n p (x ∷ g) t (suc j) h l e =
     let z : n + suc j ≡ n + 1 + j = omega arith in
     ap (λ (i : ℕ). getD (fillNodes (n + 1) (p + nodeWidth x) g (turn n p x t)) i 0) z
-    ∙ nodes-at (n + 1) (p + nodeWidth x) g (turn n p x t) j (omega arith) (omega arith) (turn-long n p x t ∙ e)
+    ∙ nodes-at (n + 1) (p + nodeWidth x) g (turn n p x t) j (omega arith) (omega arith) (omega (arith, turn-long n p x t))
 
 -- variable k of a node, of which it has at most four
 nodes-variable : (n p : ℕ) (g : List Node) (t : List ℕ) (j k : ℕ) → j < length g → k < length (nodeAt g j .variables) → length (nodeAt g j .variables) ≤ 4
-    → n + length g ≤ 64 → length t ≡ 320
+    → n + length g ≤ 64 → 64 + 4 * (n + length g) ≤ length t
     → getD (fillNodes n p g t) (64 + 4 * (n + j) + k) 0 ≡ variablePlace (nodePlace p g j + bodyOf (nodeAt g j)) (nodeAt g j .variables) k
 unfolding fillNodes nodePlace
 nodes-variable n p [] t j k h b f l e = absurd (omega arith)
@@ -98,13 +98,13 @@ nodes-variable n p (x ∷ g) t zero k h b f l e =
 nodes-variable n p (x ∷ g) t (suc j) k h b f l e =
     let z : 64 + 4 * (n + suc j) + k ≡ 64 + 4 * (n + 1 + j) + k = omega arith in
     ap (λ (i : ℕ). getD (fillNodes (n + 1) (p + nodeWidth x) g (turn n p x t)) i 0) z
-    ∙ nodes-variable (n + 1) (p + nodeWidth x) g (turn n p x t) j k (omega arith) b f (omega arith) (turn-long n p x t ∙ e)
+    ∙ nodes-variable (n + 1) (p + nodeWidth x) g (turn n p x t) j k (omega arith) b f (omega arith) (omega (arith, turn-long n p x t))
 
-pub table-node : (g : List Node) (n : ℕ) → n < length g → length g ≤ 64 → getD (tableOf g) n 0 ≡ nodePlace 3 g n
+pub table-node : (m : ℕ) (g : List Node) (n : ℕ) → n < length g → length g ≤ 64 → 64 + 4 * length g ≤ m → getD (tableOf m g) n 0 ≡ nodePlace 3 g n
 unfolding tableOf
-table-node g n h l = rw (zero-add n) at (nodes-at 0 3 g (replicate 320 0) n h (omega arith) (length-replicate {A = ℕ} 320 0))
+table-node m g n h l r = rw (zero-add n) at (nodes-at 0 3 g (replicate m 0) n h (omega arith) (omega (arith, length-replicate {A = ℕ} m 0)))
 
-pub table-variable : (g : List Node) (n k : ℕ) → n < length g → k < length (nodeAt g n .variables) → length (nodeAt g n .variables) ≤ 4 → length g ≤ 64
-    → getD (tableOf g) (64 + 4 * n + k) 0 ≡ variablePlace (nodePlace 3 g n + bodyOf (nodeAt g n)) (nodeAt g n .variables) k
+pub table-variable : (m : ℕ) (g : List Node) (n k : ℕ) → n < length g → k < length (nodeAt g n .variables) → length (nodeAt g n .variables) ≤ 4 → length g ≤ 64 → 64 + 4 * length g ≤ m
+    → getD (tableOf m g) (64 + 4 * n + k) 0 ≡ variablePlace (nodePlace 3 g n + bodyOf (nodeAt g n)) (nodeAt g n .variables) k
 unfolding tableOf
-table-variable g n k h b f l = rw (zero-add n) at (nodes-variable 0 3 g (replicate 320 0) n k h b f (omega arith) (length-replicate {A = ℕ} 320 0))
+table-variable m g n k h b f l r = rw (zero-add n) at (nodes-variable 0 3 g (replicate m 0) n k h b f (omega arith) (omega (arith, length-replicate {A = ℕ} m 0)))

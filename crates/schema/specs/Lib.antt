@@ -1,3 +1,2 @@
 pub mod Schema
 pub mod Table
-pub mod Answers

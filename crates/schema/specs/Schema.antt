@@ -1,8 +1,8 @@
 -- The schema file (01, 'Schema').
-use Prim.Native.Nat.{ℕ, zero, suc, _+_}
+use Prim.Native.Nat.{ℕ, _+_}
 use mathlib.Core.List.{List, [], _∷_}
 use mathlib.Core.Bool.{Bool, true, false, cond, _&&_, _||_}
-use lib.ListN.{length, getD}
+use lib.ListN.{getD}
 use lib.Dec.{leb, ltb, eqb}
 use lib.Signed.{leZ}
 use Rattle.fields.specs.Reading.{Got, got, bad, part, whole, field, mark, many, ended, signed}

@@ -1,5 +1,5 @@
 -- Where the records and variables of an accepted schema stand in its file, and what the accessors tell.
-use Prim.Native.Nat.{ℕ, zero, suc, _+_, _*_, _<_, _≤_}
+use Prim.Native.Nat.{ℕ, _+_, _*_, _<_, _≤_}
 use mathlib.Core.Path.{_≡_}
 use mathlib.Core.List.{List, [], _∷_}
 use mathlib.Core.Bool.{cond}
@@ -36,8 +36,9 @@ unfoldable pub fillNodes : ℕ → ℕ → List Node → List ℕ → List ℕ
 fillNodes n p [] t = t
 fillNodes n p (x ∷ xs) t = fillNodes (n + 1) (p + nodeWidth x) xs (fillVariables n 0 (p + bodyOf x) (x .variables) (set t n p))
 
-unfoldable pub tableOf : List Node → List ℕ
-tableOf g = fillNodes 0 3 g (replicate 320 0)
+-- a table of m places
+unfoldable pub tableOf : ℕ → List Node → List ℕ
+tableOf m g = fillNodes 0 3 g (replicate m 0)
 
 -- the bytes of the variable at a place, by its type
 abbrev pub widthAt : List ℕ → ℕ → ℕ
@@ -47,11 +48,11 @@ abbrev pub variablesIn : Got (List Variable) → List Variable
 variablesIn (got vs p) = vs
 variablesIn (bad n o) = []
 
--- v variables of node n are read from p on, and the table has its 320 places
+-- v variables of node n are read from p on, and the table has places for them
 pub record Filling (s : List ℕ) (n v p : ℕ) (t : List ℕ) : Type 0 where
   pub small : n < 64
   pub few : v ≤ 4
-  pub long : length t ≡ 320
+  pub long : 64 + 4 * n + v ≤ length t
   pub end : ℕ
   pub read : variables s v p ≡ got (variablesIn (variables s v p)) end
 
@@ -64,9 +65,19 @@ pub record Filled (s : List ℕ) (n v p : ℕ) (t after : List ℕ) (r : ℕ) : 
 pub record Accepted (s : List ℕ) : Type 0 where
   pub some : 0 < length (schemaOf s)
 
+-- t is the table of the file s; it may be longer than the nodes need
+pub record Tabled (s t : List ℕ) : Type 0 where
+  pub filled : t ≡ tableOf (length t) (schemaOf s)
+  pub long : 64 + 4 * length (schemaOf s) ≤ length t
+
+-- room for the table of the file s, with nothing in it
+pub record Room (s t : List ℕ) : Type 0 where
+  pub blank : t ≡ replicate (length t) 0
+  pub long : 64 + 4 * length (schemaOf s) ≤ length t
+
 -- t is the table of the file s, and n one of its nodes
 pub record NodeIn (s t : List ℕ) (n : ℕ) : Type 0 where
-  pub table : t ≡ tableOf (schemaOf s)
+  pub table : Tabled s t
   pub below : n < length (schemaOf s)
 
 -- r is x, which is at most m

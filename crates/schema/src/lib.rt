@@ -1,12 +1,10 @@
 // The reader of schema files, and accessors to the nodes of an accepted one.
 ghost use mathlib.Core.Path.{_≡_};
-ghost use Prim.Native.Nat.{ℕ, _+_, _*_, _<_, _≤_};
-ghost use lib.ListN.{length, getD};
-ghost use Rattle.fields.specs.Reading.{signed};
+ghost use Prim.Native.Nat.{_+_, _*_, _<_, _≤_};
+ghost use lib.ListN.{length};
 ghost use Rattle.fields.specs.Answers.{stepOf, judged, success};
 ghost use Rattle.schema.specs.Schema.{number, listed, variable, variables, variablesOf, successors, links, node, nodes, body, schema, schemaOf, nodeAt, variableAt, isNumber};
-ghost use Rattle.schema.specs.Table.{tableOf, widthAt, Filling, Filled, Accepted, NodeIn, AtMost, SuccessorIs};
-ghost use Rattle.schema.specs.Answers.{variableIn};
+ghost use Rattle.schema.specs.Table.{widthAt, Filling, Filled, Accepted, Tabled, Room, NodeIn, AtMost, SuccessorIs};
 use fields::Answer;
 use fields::Field;
 use fields::SignedField;
@@ -18,56 +16,44 @@ pub enum Variable {
     Listed { size: u8 },
 }
 
-// A variable that was read and the position after it, or a breach.
-enum VariableRead {
-    Found { variable: Variable, next: usize },
-    NoVariable { number: u8, offset: usize },
-}
-
-fn read_listed(s: &[u8], at: usize) -> VariableRead
-    ensures { λ r. ⌜ r ≡ variableIn (listed (now (s .entry)) at) ⌝ }
+fn read_listed(s: &[u8], at: usize) -> Step
+    ensures { λ r. ⌜ r ≡ stepOf (listed (now (s .entry)) at) ⌝ }
 {
     match fields::read_u8(s, at) {
-        Field::Cut { number, offset } => VariableRead::NoVariable { number, offset },
+        Field::Cut { number, offset } => Step::Bad { number, offset },
         Field::Value { value, next } => {
             if value == 0 {
-                return VariableRead::NoVariable {
+                return Step::Bad {
                     number: 6,
                     offset: at,
                 };
             }
             if 32 < value {
-                return VariableRead::NoVariable {
+                return Step::Bad {
                     number: 6,
                     offset: at,
                 };
             }
-            VariableRead::Found {
-                variable: Variable::Listed { size: value as u8 },
-                next,
-            }
+            Step::Next { at: next }
         }
     }
 }
 
-fn read_number(s: &[u8], from: usize) -> VariableRead
-    ensures { λ r. ⌜ r ≡ variableIn (number (now (s .entry)) from) ⌝ }
+fn read_number(s: &[u8], from: usize) -> Step
+    ensures { λ r. ⌜ r ≡ stepOf (number (now (s .entry)) from) ⌝ }
 {
     match fields::read_i32(s, from) {
-        SignedField::NoSigned { number, offset } => VariableRead::NoVariable { number, offset },
+        SignedField::NoSigned { number, offset } => Step::Bad { number, offset },
         SignedField::Signed {
             value: lo,
             next: at,
         } => match fields::read_i32(s, at) {
-            SignedField::NoSigned { number, offset } => VariableRead::NoVariable { number, offset },
+            SignedField::NoSigned { number, offset } => Step::Bad { number, offset },
             SignedField::Signed { value: hi, next } => {
                 if lo <= hi {
-                    return VariableRead::Found {
-                        variable: Variable::Number { lo, hi },
-                        next,
-                    };
+                    return Step::Next { at: next };
                 }
-                VariableRead::NoVariable {
+                Step::Bad {
                     number: 6,
                     offset: at,
                 }
@@ -76,11 +62,11 @@ fn read_number(s: &[u8], from: usize) -> VariableRead
     }
 }
 
-fn read_variable(s: &[u8], at: usize) -> VariableRead
-    ensures { λ r. ⌜ r ≡ variableIn (variable (now (s .entry)) at) ⌝ }
+fn read_variable(s: &[u8], at: usize) -> Step
+    ensures { λ r. ⌜ r ≡ stepOf (variable (now (s .entry)) at) ⌝ }
 {
     match fields::read_u8(s, at) {
-        Field::Cut { number, offset } => VariableRead::NoVariable { number, offset },
+        Field::Cut { number, offset } => Step::Bad { number, offset },
         Field::Value { value, next } => {
             if value == 0 {
                 return read_number(s, next);
@@ -88,7 +74,7 @@ fn read_variable(s: &[u8], at: usize) -> VariableRead
             if value == 1 {
                 return read_listed(s, next);
             }
-            VariableRead::NoVariable {
+            Step::Bad {
                 number: 6,
                 offset: at,
             }
@@ -103,10 +89,10 @@ fn read_variables(s: &[u8], k: u32, from: usize) -> Step
     let mut at = from;
     while 0 < left {
         match read_variable(s, at) {
-            VariableRead::NoVariable { number, offset } => {
+            Step::Bad { number, offset } => {
                 return Step::Bad { number, offset };
             }
-            VariableRead::Found { variable: _, next } => {
+            Step::Next { at: next } => {
                 at = next;
                 left -= 1;
             }
@@ -330,7 +316,7 @@ fn variable_width(s: &[u8], at: usize) -> usize
 }
 
 // The places of node n's variables, of which there are v from a place on; the place after them.
-fn fill_variables(s: &[u8], n: usize, v: usize, from: usize, table: &mut [usize; 320]) -> usize
+fn fill_variables(s: &[u8], n: usize, v: usize, from: usize, table: &mut [usize]) -> usize
     requires { ⌜ Filling (now s) n v from (now table) ⌝ }
     ensures { λ r. ⌜ Filled (now (s .entry)) n v from (now (table .entry)) (now (table .exit)) r ⌝ }
 {
@@ -344,27 +330,26 @@ fn fill_variables(s: &[u8], n: usize, v: usize, from: usize, table: &mut [usize;
     at
 }
 
-// The places of all records and variables.
-pub fn table_of(s: &[u8]) -> [usize; 320]
+// The places of all records and variables, into a table that is lent.
+pub fn fill_table(s: &[u8], table: &mut [usize])
     requires { ⌜ Accepted (now s) ⌝ }
-    ensures { λ r. ⌜ r ≡ tableOf (schemaOf (now (s .entry))) ⌝ }
+    requires { ⌜ Room (now s) (now table) ⌝ }
+    ensures { λ _. ⌜ Tabled (now (s .entry)) (now (table .exit)) ⌝ }
 {
     let count = count_of(s);
-    let mut table = [0usize; 320];
     let mut n: usize = 0;
     let mut at: usize = 3;
     while n < count {
         table[n] = at;
         let c = wide(s[at + 3]);
         let v = wide(s[at + 4 + c]);
-        at = fill_variables(s, n, v, at + 5 + c, &mut table);
+        at = fill_variables(s, n, v, at + 5 + c, table);
         n += 1;
     }
-    table
 }
 
 // Node n's kind.
-pub fn kind_of(s: &[u8], table: &[usize; 320], n: usize) -> u8
+pub fn kind_of(s: &[u8], table: &[usize], n: usize) -> u8
     requires { ⌜ NodeIn (now s) (now table) n ⌝ }
     ensures { λ r. ⌜ AtMost 1 (nodeAt (schemaOf (now (s .entry))) n .kind) r ⌝ }
 {
@@ -373,7 +358,7 @@ pub fn kind_of(s: &[u8], table: &[usize; 320], n: usize) -> u8
 }
 
 // The number of node n's successors.
-pub fn successor_count(s: &[u8], table: &[usize; 320], n: usize) -> usize
+pub fn successor_count(s: &[u8], table: &[usize], n: usize) -> usize
     requires { ⌜ NodeIn (now s) (now table) n ⌝ }
     ensures { λ r. ⌜ AtMost 8 (length (nodeAt (schemaOf (now (s .entry))) n .successors)) r ⌝ }
 {
@@ -382,7 +367,7 @@ pub fn successor_count(s: &[u8], table: &[usize; 320], n: usize) -> usize
 }
 
 // Node n's successor j.
-pub fn successor_of(s: &[u8], table: &[usize; 320], n: usize, j: usize) -> usize
+pub fn successor_of(s: &[u8], table: &[usize], n: usize, j: usize) -> usize
     requires { ⌜ NodeIn (now s) (now table) n ⌝ }
     requires { ⌜ j < length (nodeAt (schemaOf (now s)) n .successors) ⌝ }
     ensures { λ r. ⌜ SuccessorIs (schemaOf (now (s .entry))) n j r ⌝ }
@@ -392,7 +377,7 @@ pub fn successor_of(s: &[u8], table: &[usize; 320], n: usize, j: usize) -> usize
 }
 
 // The number of node n's variables.
-pub fn variable_count(s: &[u8], table: &[usize; 320], n: usize) -> usize
+pub fn variable_count(s: &[u8], table: &[usize], n: usize) -> usize
     requires { ⌜ NodeIn (now s) (now table) n ⌝ }
     ensures { λ r. ⌜ AtMost 4 (length (nodeAt (schemaOf (now (s .entry))) n .variables)) r ⌝ }
 {
@@ -402,23 +387,23 @@ pub fn variable_count(s: &[u8], table: &[usize; 320], n: usize) -> usize
 }
 
 // Node n's variable k.
-pub fn variable_of(s: &[u8], table: &[usize; 320], n: usize, k: usize) -> Variable
+pub fn variable_of(s: &[u8], table: &[usize], n: usize, k: usize) -> Variable
     requires { ⌜ NodeIn (now s) (now table) n ⌝ }
     requires { ⌜ k < length (nodeAt (schemaOf (now s)) n .variables) ⌝ }
     ensures { λ r. ⌜ r ≡ variableAt (schemaOf (now (s .entry))) n k ⌝ }
 {
     let at = table[64 + 4 * n + k];
-    match read_variable(s, at) {
-        VariableRead::NoVariable {
-            number: _,
-            offset: _,
-        } => Variable::Listed { size: 0 },
-        VariableRead::Found { variable, next: _ } => variable,
+    if s[at] == 0 {
+        return Variable::Number {
+            lo: fields::i32_at(s, at + 1),
+            hi: fields::i32_at(s, at + 5),
+        };
     }
+    Variable::Listed { size: s[at + 1] }
 }
 
 // Whether node n's variable k is a number.
-pub fn is_number(s: &[u8], table: &[usize; 320], n: usize, k: usize) -> bool
+pub fn is_number(s: &[u8], table: &[usize], n: usize, k: usize) -> bool
     requires { ⌜ NodeIn (now s) (now table) n ⌝ }
     requires { ⌜ k < length (nodeAt (schemaOf (now s)) n .variables) ⌝ }
     ensures { λ r. ⌜ r ≡ isNumber (variableAt (schemaOf (now (s .entry))) n k) ⌝ }

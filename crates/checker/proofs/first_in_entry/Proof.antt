@@ -39,7 +39,7 @@ add-t13 : tie.Need-add-t13
 add-t13 c = search needs
 
 returns-2 : tie.Need-returns-2
-returns-2 c = search entry-no
+returns-2 c = entry-no _ _ (c .before .before .before .before .before .before .before .before .before .args .s .now) (c .before .before .before .before .before .before .before .before .before .args .at) (c .before .choice-allowed .ensures) (c .if1 .left)
 
 pub first-in-entry-spec : {M : Type 1} → statement M
 first-in-entry-spec =

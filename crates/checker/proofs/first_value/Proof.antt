@@ -22,8 +22,8 @@ abbrev μ-loop : tie.MeasureT-loop
 variable-count-requires : tie.Need-variable-count-requires Inv-loop μ-loop
 variable-count-requires c κs = search needs
 
-combine-requires : tie.Need-combine-requires Inv-loop μ-loop
-combine-requires c κs = search needs
+conditions-of-requires : tie.Need-conditions-of-requires Inv-loop μ-loop
+conditions-of-requires c κs = search needs
 
 loop-holds : tie.Need-loop-holds Inv-loop μ-loop
 loop-holds c = search judging-none
@@ -40,7 +40,7 @@ width-of-requires c κs = search needs
 add-at : tie.Need-add-at Inv-loop μ-loop
 add-at c =
     judging-fits _ _ _ _ _ _ _ _ (c .before .before .before .before .before .loop .inv) (c .before .before .before .before .before .before .before .variable-count .ensures) (c .before .before .before .before .loop-test .taken) (c .before .before .before .is-number .ensures)
-    (omega (arith, c .before .before .before .before .before .before .before .before .before .before .before .good .1 .1 .1 .1 .1 .1 .1 .1 .1 .0)) (c .width-of .ensures)
+    (omega (arith, c .before .before .before .before .before .before .before .before .before .before .before .before .before .good .1 .1 .1 .1 .1 .1 .1 .1 .1 .0)) (c .width-of .ensures)
 
 add-k : tie.Need-add-k Inv-loop μ-loop
 add-k c = search needs
@@ -51,7 +51,7 @@ loop-less c = search needs
 loop-again : tie.Need-loop-again Inv-loop μ-loop
 loop-again c =
     judging-on _ _ _ _ _ _ _ _ (c .before .before .before .before .before .loop .inv) (c .before .before .before .before .before .before .before .variable-count .ensures) (c .before .before .before .before .loop-test .taken) (c .before .before .before .is-number .ensures)
-    _ (c .before .before .before .before .before .before .combine .ensures) (c .before .before .admits .ensures) (c .before .if1 .taken) (c .width-of .ensures)
+    _ (c .before .before .before .before .before .before .conditions-of .ensures) (c .before .before .admits .ensures) (c .before .if1 .taken) (c .width-of .ensures)
 
 returns : tie.Need-returns Inv-loop μ-loop
 returns c = search judging-no
@@ -66,7 +66,7 @@ first-value-spec =
     Inv-loop
     μ-loop
     variable-count-requires
-    combine-requires
+    conditions-of-requires
     loop-holds
     is-number-requires
     admits-requires

@@ -1,60 +1,48 @@
--- File 2, then the pass, then the instances.
--- Rests on the ruleset calling.
+-- Few nodes have room in the short tables, all others in the long ones.
+-- Rests on what a schema's table and an index take up, in Fill and in Above.
+use Rattle.schema.proofs.Fill.{room-16, room-64}
+use Rattle.policies.proofs.Above.{index-16, index-64}
 use borrow.Author.Needs.{needs}
-use Rattle.policies.proofs.Above.{indexed}
-use Rattle.comparison.proofs.Call.{calling}
 use Rattle.comparison.proofs.compare_policies.Statement.{statement}
 use Rattle.comparison.proofs.compare_policies.Tie as tie
-
-table-of-requires : tie.Need-table-of-requires
-table-of-requires c κs = search needs
 
 count-of-requires : tie.Need-count-of-requires
 count-of-requires c κs = search needs
 
-read-policies-requires : tie.Need-read-policies-requires
-read-policies-requires c κs = search needs
+slice-aggregate-compare-in : tie.Need-slice-aggregate-compare-in
+slice-aggregate-compare-in c = search needs
 
-enum-known-number : tie.Need-enum-known-number
-enum-known-number c = search needs
+slice-aggregate-compare-in-2 : tie.Need-slice-aggregate-compare-in-2
+slice-aggregate-compare-in-2 c = search needs
 
-enum-known-count : tie.Need-enum-known-count
-enum-known-count c = search needs
-
-check-pass-requires : tie.Need-check-pass-requires
-check-pass-requires c κs = search needs
-
-enum-known-number-2 : tie.Need-enum-known-number-2
-enum-known-number-2 c = search needs
-
-enum-told : tie.Need-enum-told
-enum-told c = search needs
-
-compare-instances-requires : tie.Need-compare-instances-requires
-compare-instances-requires c κs = search (indexed, needs)
+compare-in-requires : tie.Need-compare-in-requires
+compare-in-requires c κs = (search needs, (search needs, (search room-16, search index-16)))
 
 returns : tie.Need-returns
-returns c = search calling
+returns c = search needs
+
+slice-aggregate-compare-in-3 : tie.Need-slice-aggregate-compare-in-3
+slice-aggregate-compare-in-3 c = search needs
+
+slice-aggregate-compare-in-4 : tie.Need-slice-aggregate-compare-in-4
+slice-aggregate-compare-in-4 c = search needs
+
+compare-in-requires-2 : tie.Need-compare-in-requires-2
+compare-in-requires-2 c κs = (search needs, (search needs, (search room-64, search index-64)))
 
 returns-2 : tie.Need-returns-2
-returns-2 c = search calling
-
-returns-3 : tie.Need-returns-3
-returns-3 c = search calling
+returns-2 c = search needs
 
 pub compare-policies-spec : {M : Type 1} → statement M
 compare-policies-spec =
     tie.close
     (tie.spec
-    table-of-requires
     count-of-requires
-    read-policies-requires
-    enum-known-number
-    enum-known-count
-    check-pass-requires
-    enum-known-number-2
-    enum-told
-    compare-instances-requires
+    slice-aggregate-compare-in
+    slice-aggregate-compare-in-2
+    compare-in-requires
     returns
-    returns-2
-    returns-3)
+    slice-aggregate-compare-in-3
+    slice-aggregate-compare-in-4
+    compare-in-requires-2
+    returns-2)

@@ -1,7 +1,7 @@
 -- A negative number's bits count down from 2^32 - 1; another's are the number itself.
 -- Rests on neg-of, pos-of and up.
 use mathlib.Core.Path.{_≡_, _∙_, ap, sym}
-use Prim.Native.Nat.{suc, _-_, _<_}
+use Prim.Native.Nat.{suc, _-_}
 use native.Mathlib.Omega.{arith}
 use lib.IntN.{ℤ, pos, negsuc, _-ℤ_}
 use mir.Syntax.{w32}

@@ -1,12 +1,19 @@
 -- An accepted file is the encoding of what was read.
 -- Rests on the ruleset copying.
-use borrow.Author.Needs.{needs}
+use Rattle.schema.proofs.Fill.{room-64}
 use Rattle.instances.proofs.Copying.{copies}
+use borrow.Author.Needs.{needs}
 use Rattle.instances.proofs.copy_instance.Statement.{statement}
 use Rattle.instances.proofs.copy_instance.Tie as tie
 
-table-of-requires : tie.Need-table-of-requires
-table-of-requires c κs = search needs
+slice-aggregate-fill-table : tie.Need-slice-aggregate-fill-table
+slice-aggregate-fill-table c = search needs
+
+fill-table-requires : tie.Need-fill-table-requires
+fill-table-requires c κs = search (room-64, needs)
+
+slice-aggregate-read-instance : tie.Need-slice-aggregate-read-instance
+slice-aggregate-read-instance c = search needs
 
 read-instance-requires : tie.Need-read-instance-requires
 read-instance-requires c κs = search needs
@@ -33,7 +40,9 @@ pub copy-instance-spec : {M : Type 1} → statement M
 copy-instance-spec =
     tie.close
     (tie.spec
-    table-of-requires
+    slice-aggregate-fill-table
+    fill-table-requires
+    slice-aggregate-read-instance
     read-instance-requires
     enum-known-number
     enum-told

@@ -2,19 +2,16 @@
 -- Rests on what the index holds of an accepted file.
 use borrow.Author.Needs.{needs}
 use native.Mathlib.Omega.{arith}
-use Rattle.policies.proofs.Places.{policy-few}
+use Rattle.policies.proofs.Places.{policy-few, policy-long}
 use Rattle.policies.proofs.Pass.{forcing}
 use Rattle.policies.proofs.in_force.Statement.{statement}
 use Rattle.policies.proofs.in_force.Tie as tie
 
-add-head : tie.Need-add-head
-add-head c = omega (arith, policy-few)
-
 mul-head : tie.Need-mul-head
 mul-head c = omega (arith, policy-few)
 
-element-copy-out-head : tie.Need-element-copy-out-head
-element-copy-out-head c = omega (arith, policy-few)
+shared-slice-read-head : tie.Need-shared-slice-read-head
+shared-slice-read-head c = omega (arith, policy-few, policy-long)
 
 head-from-requires : tie.Need-head-from-requires
 head-from-requires c κs = search needs
@@ -41,9 +38,8 @@ pub in-force-spec : {M : Type 1} → statement M
 in-force-spec =
     tie.close
     (tie.spec
-    add-head
     mul-head
-    element-copy-out-head
+    shared-slice-read-head
     head-from-requires
     enum-told
     enum-known-first

@@ -4,12 +4,12 @@ use borrow.Author.Needs.{needs}
 use native.Mathlib.Omega.{arith}
 use Prim.Native.Nat.{_-_}
 use Rattle.schema.proofs.Access.{node-small}
-use Rattle.policies.proofs.Laying.{Laying, lay-start, lay-number, lay-listed, lay-done}
+use Rattle.policies.proofs.Laying.{Laying, lay-start, lay-place, lay-number, lay-listed, lay-own, lay-same, lay-done}
 use Rattle.policies.proofs.lay_out.Statement.{statement}
 use Rattle.policies.proofs.lay_out.Tie as tie
 
 abbrev Inv-loop : tie.InvT-loop
-Inv-loop schema table n layout₀ v w₀ f₀ k₀ layout w f k = Laying schema n k w f layout
+Inv-loop schema table n layout₀ v w₀ f₀ k₀ layout w f k = Laying schema n layout₀ k w f layout
 
 abbrev μ-loop : tie.MeasureT-loop
 μ-loop schema table n layout₀ v w₀ f₀ k₀ layout w f k = v - k
@@ -39,7 +39,7 @@ add-put-pair-2 : tie.Need-add-put-pair-2 Inv-loop μ-loop
 add-put-pair-2 c = omega (arith, node-small)
 
 put-pair-requires : tie.Need-put-pair-requires Inv-loop μ-loop
-put-pair-requires c κs = omega (arith, node-small)
+put-pair-requires c κs = search lay-place
 
 is-number-requires : tie.Need-is-number-requires Inv-loop μ-loop
 is-number-requires c κs = search needs
@@ -55,16 +55,17 @@ loop-less c = search needs
 
 loop-again : tie.Need-loop-again Inv-loop μ-loop
 loop-again c =
-    let p = c .before .before .before .before in
-    let l = p .before .before in
+    let q = c .before .before .before .before in
+    let m = q .before .before in
+    let l = m .before .before in
     lay-number
-    _ _ _ _ _ _
+    _ _ _ _ _ _ _
     (l .loop .inv)
-    (l .before .before .before .before .pre .0)
-    (p .before .loop-test .taken)
+    (l .before .before .before .before .before .before .pre .0)
+    (m .before .loop-test .taken)
     (l .before .before .variable-count .ensures)
-    (p .most-of .ensures)
-    (c .before .before .put-pair .ensures)
+    (m .most-of .ensures)
+    (q .put-pair .ensures)
     (c .before .is-number .ensures)
     (c .if1 .taken)
 
@@ -89,8 +90,11 @@ add-layout c = omega (arith, node-small)
 mul-layout-2 : tie.Need-mul-layout-2 Inv-loop μ-loop
 mul-layout-2 c = omega (arith, node-small)
 
-element-write-layout : tie.Need-element-write-layout Inv-loop μ-loop
-element-write-layout c = omega (arith, node-small)
+slice-write-layout : tie.Need-slice-write-layout Inv-loop μ-loop
+slice-write-layout c = search lay-own
+
+same-length : tie.Need-same-length Inv-loop μ-loop
+same-length c = search lay-same
 
 returns : tie.Need-returns Inv-loop μ-loop
 returns c = search lay-done
@@ -122,5 +126,6 @@ lay-out-spec =
     mul-layout
     add-layout
     mul-layout-2
-    element-write-layout
+    slice-write-layout
+    same-length
     returns)

@@ -32,8 +32,8 @@ add-at-2 c = search needs
 mul-at-3 : tie.Need-mul-at-3 Inv-loop μ-loop
 mul-at-3 c = search needs
 
-element-copy-out-at : tie.Need-element-copy-out-at Inv-loop μ-loop
-element-copy-out-at c = search needs
+shared-slice-read-at : tie.Need-shared-slice-read-at Inv-loop μ-loop
+shared-slice-read-at c = search needs
 
 mul-most : tie.Need-mul-most Inv-loop μ-loop
 mul-most c = search needs
@@ -53,8 +53,8 @@ add-most-3 c = search needs
 mul-most-3 : tie.Need-mul-most-3 Inv-loop μ-loop
 mul-most-3 c = search needs
 
-element-copy-out-most : tie.Need-element-copy-out-most Inv-loop μ-loop
-element-copy-out-most c = search needs
+shared-slice-read-most : tie.Need-shared-slice-read-most Inv-loop μ-loop
+shared-slice-read-most c = search needs
 
 add-u32-at : tie.Need-add-u32-at Inv-loop μ-loop
 add-u32-at c = search over-fits
@@ -90,14 +90,14 @@ none-over-spec =
     mul-at-2
     add-at-2
     mul-at-3
-    element-copy-out-at
+    shared-slice-read-at
     mul-most
     add-most
     mul-most-2
     add-most-2
     add-most-3
     mul-most-3
-    element-copy-out-most
+    shared-slice-read-most
     add-u32-at
     u32-at-requires
     cast-if1

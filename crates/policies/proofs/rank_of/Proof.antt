@@ -3,33 +3,33 @@
 use borrow.Author.Needs.{needs}
 use native.Mathlib.Omega.{arith}
 use Rattle.policies.proofs.Nodes.{rank-small}
-use Rattle.policies.proofs.Places.{policy-few, head-in, rank-none, rank-in, rank-is}
+use Rattle.policies.proofs.Places.{policy-few, policy-long, head-in, rank-none, rank-in, rank-is}
 use Rattle.policies.proofs.rank_of.Statement.{statement}
 use Rattle.policies.proofs.rank_of.Tie as tie
 
 mul-at : tie.Need-mul-at
-mul-at c = omega (arith, policy-few)
+mul-at c = omega (arith, rank-small)
 
 add-at : tie.Need-add-at
-add-at c = omega (arith, policy-few, rank-small)
+add-at c = omega (arith, rank-small)
+
+add-at-2 : tie.Need-add-at-2
+add-at-2 c = omega (arith, policy-few, rank-small)
 
 mul-at-2 : tie.Need-mul-at-2
 mul-at-2 c = omega (arith, policy-few, rank-small)
 
-element-copy-out-at : tie.Need-element-copy-out-at
-element-copy-out-at c = omega (arith, policy-few, rank-small)
+shared-slice-read-at : tie.Need-shared-slice-read-at
+shared-slice-read-at c = omega (arith, policy-few, policy-long)
 
 returns : tie.Need-returns
 returns c = search rank-none
 
-add-head : tie.Need-add-head
-add-head c = omega (arith, policy-few)
-
 mul-head : tie.Need-mul-head
 mul-head c = omega (arith, policy-few)
 
-element-copy-out-head : tie.Need-element-copy-out-head
-element-copy-out-head c = omega (arith, policy-few)
+shared-slice-read-head : tie.Need-shared-slice-read-head
+shared-slice-read-head c = omega (arith, policy-few, policy-long)
 
 sub-byte-at : tie.Need-sub-byte-at
 sub-byte-at c = search head-in
@@ -52,12 +52,12 @@ rank-of-spec =
     (tie.spec
     mul-at
     add-at
+    add-at-2
     mul-at-2
-    element-copy-out-at
+    shared-slice-read-at
     returns
-    add-head
     mul-head
-    element-copy-out-head
+    shared-slice-read-head
     sub-byte-at
     part-byte-at-start
     part-byte-at-end

@@ -6,7 +6,7 @@ use Rattle.reconciler.proofs.choose.Statement.{statement}
 use Rattle.reconciler.proofs.choose.Tie as tie
 
 gather-requires : tie.Need-gather-requires
-gather-requires c κs = (search needs, (search needs, (search needs, search needs)))
+gather-requires c κs = search needs
 
 fill-set-requires : tie.Need-fill-set-requires
 fill-set-requires c κs = search needs

@@ -4,17 +4,17 @@ use Prim.Native.Nat.{_-_}
 use Rattle.schema.specs.Schema.{schemaOf}
 use Rattle.policies.specs.Policies.{policiesOf}
 use Rattle.policies.specs.Pass.{forced}
-use Rattle.reconciler.proofs.Tables.{ranked-none, ranked-policy, ranked-more, ranked-done}
+use Rattle.reconciler.proofs.Tables.{ranked-none, ranked-said, ranked-more, ranked-done}
 use Rattle.reconciler.specs.Plan.{Ranked}
 use borrow.Author.Needs.{needs}
 use Rattle.reconciler.proofs.gather.Statement.{statement}
 use Rattle.reconciler.proofs.gather.Tie as tie
 
 abbrev Inv-loop : tie.InvT-loop
-Inv-loop schema p index list rows a b n columns ranks₀ j₀ ranks j = Ranked (forced a b (policiesOf (schemaOf schema) p)) n j columns ranks
+Inv-loop schema p places rows a b n columns ranks₀ j₀ ranks j = Ranked (forced a b (policiesOf (schemaOf schema) p)) n j columns ranks
 
 abbrev μ-loop : tie.MeasureT-loop
-μ-loop schema p index list rows a b n columns ranks₀ j₀ ranks j = rows - j
+μ-loop schema p places rows a b n columns ranks₀ j₀ ranks j = rows - j
 
 loop-holds : tie.Need-loop-holds Inv-loop μ-loop
 loop-holds c = search ranked-none
@@ -26,7 +26,7 @@ element-copy-out-gather-row : tie.Need-element-copy-out-gather-row Inv-loop μ-l
 element-copy-out-gather-row c = search needs
 
 gather-row-requires : tie.Need-gather-row-requires Inv-loop μ-loop
-gather-row-requires c κs = (search ranked-policy, (search needs, (search needs, search needs)))
+gather-row-requires c κs = (search ranked-said, (search needs, (search needs, search needs)))
 
 add-j : tie.Need-add-j Inv-loop μ-loop
 add-j c = search needs

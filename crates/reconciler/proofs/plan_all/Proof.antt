@@ -29,7 +29,7 @@ loop-less : tie.Need-loop-less Inv-loop μ-loop
 loop-less c = search needs
 
 loop-again : tie.Need-loop-again Inv-loop μ-loop
-loop-again c = (pass-unmet _ _ _ _ _ _ _ _ _ _ (c .before .before .before .before .before .before .before .before .shared-slice-known .given) (c .before .before .before .before .before .before .before .before .before .pre .0) (c .before .before .before .before .before .before .loop .inv .0) (c .before .before .before .before .before .loop-test .taken) (c .before .before .before .before .before .before .loop .inv .1) (c .before .before .plan-node .ensures) (c .enum-told .given .1), search needs)
+loop-again c = (pass-unmet _ _ _ _ _ _ _ _ _ _ (c .before .before .before .before .before .before .before .before .before .before .shared-slice-known .given) (c .before .before .before .before .before .before .before .before .before .before .before .pre .0) (c .before .before .before .before .before .before .loop .inv .0) (c .before .before .before .before .before .loop-test .taken) (c .before .before .before .before .before .before .loop .inv .1) (c .before .before .plan-node .ensures) (c .enum-told .given .1), search needs)
 
 enum-told-2 : tie.Need-enum-told-2 Inv-loop μ-loop
 enum-told-2 c = search needs
@@ -41,13 +41,13 @@ loop-less-2 : tie.Need-loop-less-2 Inv-loop μ-loop
 loop-less-2 c = search needs
 
 loop-again-2 : tie.Need-loop-again-2 Inv-loop μ-loop
-loop-again-2 c = (pass-met _ _ _ _ _ _ _ _ _ _ (c .before .before .before .before .before .before .before .before .shared-slice-known .given) (c .before .before .before .before .before .before .before .before .before .pre .0) (c .before .before .before .before .before .before .loop .inv .0) (c .before .before .before .before .before .loop-test .taken) (c .before .before .before .before .before .before .loop .inv .1) (c .before .before .plan-node .ensures) (c .enum-told2 .given .1), search needs)
+loop-again-2 c = (pass-met _ _ _ _ _ _ _ _ _ _ (c .before .before .before .before .before .before .before .before .before .before .shared-slice-known .given) (c .before .before .before .before .before .before .before .before .before .before .before .pre .0) (c .before .before .before .before .before .before .loop .inv .0) (c .before .before .before .before .before .loop-test .taken) (c .before .before .before .before .before .before .loop .inv .1) (c .before .before .plan-node .ensures) (c .enum-told2 .given .1), search needs)
 
 enum-known-successor : tie.Need-enum-known-successor Inv-loop μ-loop
 enum-known-successor c = search needs
 
 cast-choices : tie.Need-cast-choices Inv-loop μ-loop
-cast-choices c = record { fits = pass-small _ _ _ _ _ _ _ _ _ _ (c .before .before .before .before .before .before .before .before .before .shared-slice-known .given) (c .before .before .before .before .before .before .before .before .before .before .pre .0) (c .before .before .before .before .before .before .before .loop .inv .0) (c .before .before .before .before .before .before .loop-test .taken) (c .before .before .before .before .before .before .before .loop .inv .1) (c .before .before .before .plan-node .ensures) (c .before .successor .given .1) }
+cast-choices c = record { fits = pass-small _ _ _ _ _ _ _ _ _ _ (c .before .before .before .before .before .before .before .before .before .before .before .shared-slice-known .given) (c .before .before .before .before .before .before .before .before .before .before .before .before .pre .0) (c .before .before .before .before .before .before .before .loop .inv .0) (c .before .before .before .before .before .before .loop-test .taken) (c .before .before .before .before .before .before .before .loop .inv .1) (c .before .before .before .plan-node .ensures) (c .before .successor .given .1) }
 
 element-write-choices : tie.Need-element-write-choices Inv-loop μ-loop
 element-write-choices c = search pass-place

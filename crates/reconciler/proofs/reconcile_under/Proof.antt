@@ -1,63 +1,77 @@
--- Each answer of the readers has its own.
--- Rests on the laws of policies and pass, in Calling.
-use Rattle.reconciler.proofs.Calling.{schema-in, policies-refused, policies-indexed, pass-refused, pass-accepted}
+-- The tables are long enough for the nodes that there are.
+-- Rests on the laws of their room.
+use borrow.Author.Needs.{needs}
+use Rattle.schema.proofs.Fill.{room-4, room-16, room-64}
+use Rattle.policies.proofs.Above.{index-4, index-16, index-64}
 use borrow.Author.Needs.{needs}
 use Rattle.reconciler.proofs.reconcile_under.Statement.{statement}
 use Rattle.reconciler.proofs.reconcile_under.Tie as tie
 
-table-of-requires : tie.Need-table-of-requires
-table-of-requires c κs = search needs
-
 count-of-requires : tie.Need-count-of-requires
 count-of-requires c κs = search needs
 
-read-policies-requires : tie.Need-read-policies-requires
-read-policies-requires c κs = search needs
+slice-aggregate-reconcile-in : tie.Need-slice-aggregate-reconcile-in
+slice-aggregate-reconcile-in c = search needs
 
-enum-known-number : tie.Need-enum-known-number
-enum-known-number c = search needs
+slice-aggregate-reconcile-in-2 : tie.Need-slice-aggregate-reconcile-in-2
+slice-aggregate-reconcile-in-2 c = search needs
 
-enum-known-policies : tie.Need-enum-known-policies
-enum-known-policies c = search needs
-
-check-pass-requires : tie.Need-check-pass-requires
-check-pass-requires c κs = search needs
-
-enum-known-number-2 : tie.Need-enum-known-number-2
-enum-known-number-2 c = search needs
-
-enum-told : tie.Need-enum-told
-enum-told c = search needs
-
-settle-requires : tie.Need-settle-requires
-settle-requires c κs = (search needs, (search schema-in, search policies-indexed))
-
-returns : tie.Need-returns
-returns c = search (policies-refused, pass-refused, pass-accepted)
-
-returns-2 : tie.Need-returns-2
-returns-2 c = search (policies-refused, pass-refused, pass-accepted)
+reconcile-in-requires : tie.Need-reconcile-in-requires
+reconcile-in-requires c κs = (search needs, (search needs, (search room-4, search index-4)))
 
 same-length : tie.Need-same-length
 same-length c = search needs
 
+returns : tie.Need-returns
+returns c = search needs
+
+slice-aggregate-reconcile-in-3 : tie.Need-slice-aggregate-reconcile-in-3
+slice-aggregate-reconcile-in-3 c = search needs
+
+slice-aggregate-reconcile-in-4 : tie.Need-slice-aggregate-reconcile-in-4
+slice-aggregate-reconcile-in-4 c = search needs
+
+reconcile-in-requires-2 : tie.Need-reconcile-in-requires-2
+reconcile-in-requires-2 c κs = (search needs, (search needs, (search room-16, search index-16)))
+
+same-length-2 : tie.Need-same-length-2
+same-length-2 c = search needs
+
+returns-2 : tie.Need-returns-2
+returns-2 c = search needs
+
+slice-aggregate-reconcile-in-5 : tie.Need-slice-aggregate-reconcile-in-5
+slice-aggregate-reconcile-in-5 c = search needs
+
+slice-aggregate-reconcile-in-6 : tie.Need-slice-aggregate-reconcile-in-6
+slice-aggregate-reconcile-in-6 c = search needs
+
+reconcile-in-requires-3 : tie.Need-reconcile-in-requires-3
+reconcile-in-requires-3 c κs = (search needs, (search needs, (search room-64, search index-64)))
+
+same-length-3 : tie.Need-same-length-3
+same-length-3 c = search needs
+
 returns-3 : tie.Need-returns-3
-returns-3 c = search (policies-refused, pass-refused, pass-accepted)
+returns-3 c = search needs
 
 pub reconcile-under-spec : {M : Type 1} → statement M
 reconcile-under-spec =
     tie.close
     (tie.spec
-    table-of-requires
     count-of-requires
-    read-policies-requires
-    enum-known-number
-    enum-known-policies
-    check-pass-requires
-    enum-known-number-2
-    enum-told
-    settle-requires
-    returns
-    returns-2
+    slice-aggregate-reconcile-in
+    slice-aggregate-reconcile-in-2
+    reconcile-in-requires
     same-length
+    returns
+    slice-aggregate-reconcile-in-3
+    slice-aggregate-reconcile-in-4
+    reconcile-in-requires-2
+    same-length-2
+    returns-2
+    slice-aggregate-reconcile-in-5
+    slice-aggregate-reconcile-in-6
+    reconcile-in-requires-3
+    same-length-3
     returns-3)

@@ -1,7 +1,6 @@
--- The root can be met exactly if an instance meets the policies in force; the plan's instance is then the reconciled one.
--- Rests on settled and unsettled.
+-- The policies in force are listed, then it is settled under them.
+-- Rests on the list's law, of conditions.
 use Rattle.conditions.proofs.Listed.{listed}
-use Rattle.reconciler.proofs.Calling.{planned-none, settled, unsettled}
 use borrow.Author.Needs.{needs}
 use Rattle.reconciler.proofs.settle.Statement.{statement}
 use Rattle.reconciler.proofs.settle.Tie as tie
@@ -9,36 +8,15 @@ use Rattle.reconciler.proofs.settle.Tie as tie
 list-in-force-requires : tie.Need-list-in-force-requires
 list-in-force-requires c κs = search needs
 
-plan-all-requires : tie.Need-plan-all-requires
-plan-all-requires c κs = (search needs, (search needs, (search listed, search planned-none)))
-
-array-read-if1 : tie.Need-array-read-if1
-array-read-if1 c = search needs
-
-slice-aggregate-write-plan : tie.Need-slice-aggregate-write-plan
-slice-aggregate-write-plan c = search needs
-
-write-plan-requires : tie.Need-write-plan-requires
-write-plan-requires c κs = search needs
+settle-listed-requires : tie.Need-settle-listed-requires
+settle-listed-requires c κs = (search needs, (search needs, (search needs, search listed)))
 
 same-length : tie.Need-same-length
 same-length c = search needs
 
 returns : tie.Need-returns
-returns c = search settled
-
-returns-2 : tie.Need-returns-2
-returns-2 c = search unsettled
+returns c = search needs
 
 pub settle-spec : {M : Type 1} → statement M
 settle-spec =
-    tie.close
-    (tie.spec
-    list-in-force-requires
-    plan-all-requires
-    array-read-if1
-    slice-aggregate-write-plan
-    write-plan-requires
-    same-length
-    returns
-    returns-2)
+    tie.close (tie.spec list-in-force-requires settle-listed-requires same-length returns)

@@ -28,8 +28,8 @@ add-table-2 c = search needs
 mul-table-2 : tie.Need-mul-table-2 Inv-loop μ-loop
 mul-table-2 c = search needs
 
-element-write-table : tie.Need-element-write-table Inv-loop μ-loop
-element-write-table c = search needs
+slice-write-table : tie.Need-slice-write-table Inv-loop μ-loop
+slice-write-table c = search needs
 
 variable-width-requires : tie.Need-variable-width-requires Inv-loop μ-loop
 variable-width-requires c κs = search turning-under
@@ -37,7 +37,7 @@ variable-width-requires c κs = search turning-under
 add-at : tie.Need-add-at Inv-loop μ-loop
 add-at c =
     let b = c .before .before in
-    let h = turning-inside _ _ _ _ _ _ _ _ (b .before .before .pre) (b .loop .inv) (c .before .loop-test .taken) in
+    let h = turning-inside _ _ _ _ _ _ _ _ (b .before .before .before .pre) (b .loop .inv) (c .before .loop-test .taken) in
     let e = c .variable-width .ensures in
     omega arith
 
@@ -49,6 +49,9 @@ loop-less c = search needs
 
 loop-again : tie.Need-loop-again Inv-loop μ-loop
 loop-again c = search turning-more
+
+same-length : tie.Need-same-length Inv-loop μ-loop
+same-length c = search needs
 
 returns : tie.Need-returns Inv-loop μ-loop
 returns c = search turning-done
@@ -64,10 +67,11 @@ fill-variables-spec =
     add-table
     add-table-2
     mul-table-2
-    element-write-table
+    slice-write-table
     variable-width-requires
     add-at
     add-k
     loop-less
     loop-again
+    same-length
     returns)

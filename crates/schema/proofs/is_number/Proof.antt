@@ -17,8 +17,8 @@ add-at-2 c = omega (arith, variable-small _ _ _ _ (c .pre .0) (c .pre .1))
 mul-at-2 : tie.Need-mul-at-2
 mul-at-2 c = omega (arith, variable-small _ _ _ _ (c .pre .0) (c .pre .1))
 
-element-copy-out-at : tie.Need-element-copy-out-at
-element-copy-out-at c = search variable-small
+shared-slice-read-at : tie.Need-shared-slice-read-at
+shared-slice-read-at c = search variable-small
 
 shared-slice-read-if1 : tie.Need-shared-slice-read-if1
 shared-slice-read-if1 c = search variable-inside
@@ -37,7 +37,7 @@ is-number-spec =
     add-at
     add-at-2
     mul-at-2
-    element-copy-out-at
+    shared-slice-read-at
     shared-slice-read-if1
     returns
     returns-2)

@@ -1,15 +1,15 @@
 -- The kind is the byte after the mark of the record that the table tells.
 -- Rests on kind-at.
 use native.Mathlib.Omega.{arith}
-use Rattle.schema.proofs.Access.{node-small, node-inside, kind-at}
+use Rattle.schema.proofs.Access.{node-small, node-room, node-inside, kind-at}
 use Rattle.schema.proofs.kind_of.Statement.{statement}
 use Rattle.schema.proofs.kind_of.Tie as tie
 
 mul-at : tie.Need-mul-at
-mul-at c = omega (arith, node-small, node-inside)
+mul-at c = omega (arith, node-small)
 
-element-copy-out-at : tie.Need-element-copy-out-at
-element-copy-out-at c = omega (arith, node-small, node-inside)
+shared-slice-read-at : tie.Need-shared-slice-read-at
+shared-slice-read-at c = omega (arith, node-room)
 
 add-result : tie.Need-add-result
 add-result c = omega (arith, node-inside _ _ _ (c .before .pre))
@@ -22,4 +22,4 @@ returns c = search kind-at
 
 pub kind-of-spec : {M : Type 1} → statement M
 kind-of-spec =
-    tie.close (tie.spec mul-at element-copy-out-at add-result shared-slice-read-result returns)
+    tie.close (tie.spec mul-at shared-slice-read-at add-result shared-slice-read-result returns)

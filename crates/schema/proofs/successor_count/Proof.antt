@@ -1,22 +1,22 @@
 -- The number of successors is the byte after the kind.
 -- Rests on links-at.
 use native.Mathlib.Omega.{arith}
-use Rattle.schema.proofs.Access.{node-small, node-inside, links-at}
+use Rattle.schema.proofs.Access.{node-small, node-room, node-inside, links-at}
 use borrow.Author.Needs.{needs}
 use Rattle.schema.proofs.successor_count.Statement.{statement}
 use Rattle.schema.proofs.successor_count.Tie as tie
 
 mul-at : tie.Need-mul-at
-mul-at c = omega (arith, node-small, node-inside)
+mul-at c = omega (arith, node-small)
 
-element-copy-out-at : tie.Need-element-copy-out-at
-element-copy-out-at c = omega (arith, node-small, node-inside)
+shared-slice-read-at : tie.Need-shared-slice-read-at
+shared-slice-read-at c = omega (arith, node-room)
 
 add-wide : tie.Need-add-wide
-add-wide c = omega (arith, node-inside _ _ _ (c .before .before .pre))
+add-wide c = omega (arith, node-inside _ _ _ (c .before .before .before .pre))
 
 shared-slice-read-wide : tie.Need-shared-slice-read-wide
-shared-slice-read-wide c = omega (arith, node-inside _ _ _ (c .before .before .before .pre))
+shared-slice-read-wide c = omega (arith, node-inside _ _ _ (c .before .before .before .before .pre))
 
 wide-requires : tie.Need-wide-requires
 wide-requires c κs = search needs
@@ -27,4 +27,4 @@ returns c = search links-at
 pub successor-count-spec : {M : Type 1} → statement M
 successor-count-spec =
     tie.close
-    (tie.spec mul-at element-copy-out-at add-wide shared-slice-read-wide wide-requires returns)
+    (tie.spec mul-at shared-slice-read-at add-wide shared-slice-read-wide wide-requires returns)

@@ -1,25 +1,25 @@
 -- Successor j is the byte j after their number.
 -- Rests on link-at.
 use native.Mathlib.Omega.{arith}
-use Rattle.schema.proofs.Access.{node-small, node-inside, link-at}
+use Rattle.schema.proofs.Access.{node-small, node-room, node-inside, link-at}
 use borrow.Author.Needs.{needs}
 use Rattle.schema.proofs.successor_of.Statement.{statement}
 use Rattle.schema.proofs.successor_of.Tie as tie
 
 mul-at : tie.Need-mul-at
-mul-at c = omega (arith, node-small, node-inside)
+mul-at c = omega (arith, node-small)
 
-element-copy-out-at : tie.Need-element-copy-out-at
-element-copy-out-at c = omega (arith, node-small, node-inside)
+shared-slice-read-at : tie.Need-shared-slice-read-at
+shared-slice-read-at c = omega (arith, node-room)
 
 add-wide : tie.Need-add-wide
-add-wide c = omega (arith, node-inside _ _ _ (c .before .before .pre .0))
+add-wide c = omega (arith, node-inside _ _ _ (c .before .before .before .pre .0))
 
 add-wide-2 : tie.Need-add-wide-2
-add-wide-2 c = omega (arith, node-inside _ _ _ (c .before .before .pre .0))
+add-wide-2 c = omega (arith, node-inside _ _ _ (c .before .before .before .pre .0))
 
 shared-slice-read-wide : tie.Need-shared-slice-read-wide
-shared-slice-read-wide c = omega (arith, node-inside _ _ _ (c .before .before .before .pre .0))
+shared-slice-read-wide c = omega (arith, node-inside _ _ _ (c .before .before .before .before .pre .0))
 
 wide-requires : tie.Need-wide-requires
 wide-requires c κs = search needs
@@ -32,7 +32,7 @@ successor-of-spec =
     tie.close
     (tie.spec
     mul-at
-    element-copy-out-at
+    shared-slice-read-at
     add-wide
     add-wide-2
     shared-slice-read-wide

@@ -1,34 +1,34 @@
 -- The number of variables is the byte after the successors.
 -- Rests on variables-count.
 use native.Mathlib.Omega.{arith}
-use Rattle.schema.proofs.Access.{node-small, node-inside, linked-inside, variables-count}
+use Rattle.schema.proofs.Access.{node-small, node-room, node-inside, linked-inside, variables-count}
 use borrow.Author.Needs.{needs}
 use Rattle.schema.proofs.variable_count.Statement.{statement}
 use Rattle.schema.proofs.variable_count.Tie as tie
 
 mul-at : tie.Need-mul-at
-mul-at c = omega (arith, node-small, node-inside)
+mul-at c = omega (arith, node-small)
 
-element-copy-out-at : tie.Need-element-copy-out-at
-element-copy-out-at c = omega (arith, node-small, node-inside)
+shared-slice-read-at : tie.Need-shared-slice-read-at
+shared-slice-read-at c = omega (arith, node-room)
 
 add-wide : tie.Need-add-wide
-add-wide c = omega (arith, node-inside _ _ _ (c .before .before .pre))
+add-wide c = omega (arith, node-inside _ _ _ (c .before .before .before .pre))
 
 shared-slice-read-wide : tie.Need-shared-slice-read-wide
-shared-slice-read-wide c = omega (arith, node-inside _ _ _ (c .before .before .before .pre))
+shared-slice-read-wide c = omega (arith, node-inside _ _ _ (c .before .before .before .before .pre))
 
 wide-requires : tie.Need-wide-requires
 wide-requires c κs = search needs
 
 add-wide-2 : tie.Need-add-wide-2
-add-wide-2 c = omega (arith, linked-inside _ _ _ (c .before .before .before .before .pre) (c .wide .ensures))
+add-wide-2 c = omega (arith, linked-inside _ _ _ (c .before .before .before .before .before .pre) (c .wide .ensures))
 
 add-wide-3 : tie.Need-add-wide-3
-add-wide-3 c = omega (arith, linked-inside _ _ _ (c .before .before .before .before .pre) (c .wide .ensures))
+add-wide-3 c = omega (arith, linked-inside _ _ _ (c .before .before .before .before .before .pre) (c .wide .ensures))
 
 shared-slice-read-wide-2 : tie.Need-shared-slice-read-wide-2
-shared-slice-read-wide-2 c = linked-inside _ _ _ (c .before .before .before .before .before .pre) (c .before .wide .ensures)
+shared-slice-read-wide-2 c = omega (arith, linked-inside _ _ _ (c .before .before .before .before .before .before .pre) (c .before .wide .ensures))
 
 wide-requires-2 : tie.Need-wide-requires-2
 wide-requires-2 c κs = search needs
@@ -41,7 +41,7 @@ variable-count-spec =
     tie.close
     (tie.spec
     mul-at
-    element-copy-out-at
+    shared-slice-read-at
     add-wide
     shared-slice-read-wide
     wide-requires

@@ -1,0 +1,71 @@
+-- The policies from here on are left.
+-- Rests on the laws of a turn, in Narrowing.
+use Prim.Native.Nat.{_-_}
+use Rattle.schema.specs.Schema.{schemaOf}
+use Rattle.policies.specs.Policies.{mask, policiesOf}
+use Rattle.policies.specs.Pass.{forced}
+use Rattle.conditions.proofs.Narrowing.{Narrowing, narrowing-none, narrowing-same, mask-room, mask-fits, narrowing-mask, narrowing-done}
+use borrow.Author.Needs.{needs}
+use Rattle.conditions.proofs.narrow_mask.Statement.{statement}
+use Rattle.conditions.proofs.narrow_mask.Tie as tie
+
+abbrev Inv-loop : tie.InvT-loop
+Inv-loop schema p places rows a b n k offset all m₀ r₀ m r = Narrowing (forced a b (policiesOf (schemaOf schema) p)) n k (mask all) r (mask m)
+
+abbrev μ-loop : tie.MeasureT-loop
+μ-loop schema p places rows a b n k offset all m₀ r₀ m r = rows - r
+
+loop-holds : tie.Need-loop-holds Inv-loop μ-loop
+loop-holds c = search narrowing-none
+
+mul-at : tie.Need-mul-at Inv-loop μ-loop
+mul-at c = search needs
+
+element-copy-out-at : tie.Need-element-copy-out-at Inv-loop μ-loop
+element-copy-out-at c = search needs
+
+add-r : tie.Need-add-r Inv-loop μ-loop
+add-r c = search needs
+
+loop-less : tie.Need-loop-less Inv-loop μ-loop
+loop-less c = search needs
+
+loop-again : tie.Need-loop-again Inv-loop μ-loop
+loop-again c = search narrowing-same
+
+add-u32-at : tie.Need-add-u32-at Inv-loop μ-loop
+add-u32-at c = search (mask-fits, needs)
+
+u32-at-requires : tie.Need-u32-at-requires Inv-loop μ-loop
+u32-at-requires c κs = search mask-room
+
+add-r-2 : tie.Need-add-r-2 Inv-loop μ-loop
+add-r-2 c = search needs
+
+loop-less-2 : tie.Need-loop-less-2 Inv-loop μ-loop
+loop-less-2 c = search needs
+
+loop-again-2 : tie.Need-loop-again-2 Inv-loop μ-loop
+loop-again-2 c = search narrowing-mask
+
+returns : tie.Need-returns Inv-loop μ-loop
+returns c = search narrowing-done
+
+pub narrow-mask-spec : {M : Type 1} → statement M
+narrow-mask-spec =
+    tie.close
+    (tie.spec
+    Inv-loop
+    μ-loop
+    loop-holds
+    mul-at
+    element-copy-out-at
+    add-r
+    loop-less
+    loop-again
+    add-u32-at
+    u32-at-requires
+    add-r-2
+    loop-less-2
+    loop-again-2
+    returns)
