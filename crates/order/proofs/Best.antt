@@ -9,14 +9,15 @@ use native.Mathlib.Omega.{arith}
 use native.Mathlib.Nat.{add-zero, zero-add}
 use native.Mathlib.Decide.{decLt}
 use borrow.Author.Tests.{eq-eqb, ne-eqb, le-leb, lt-leb}
-use lib.Dec.{leb}
-use lib.ListN.{length, getD}
+use lib.Dec.{leb, eqb}
+use lib.ListN.{length, getD, set, length-set}
+use lib.Seq.{getD-set-same, getD-set-other}
 use Rattle.fields.proofs.Tests.{and-yes, and-true, never}
 use Rattle.model.specs.Reconciling.{best}
 use Rattle.model.proofs.Lawful.{Strict, Total}
 use Rattle.model.proofs.Ranks.{by-strict, by-total}
 use Rattle.model.proofs.Successors.{best-at, best-none-at}
-use Rattle.order.specs.Order.{countUp, rankIn, betterIn, allowedIn, inSet, firstColumn, Picked, over, ahead, Leads}
+use Rattle.order.specs.Order.{countUp, rankIn, betterIn, allowedIn, inSet, firstColumn, Picked, over, First, Kept}
 
 pub in-strict : (t : List ℕ) (rows : ℕ) → Strict (betterIn t rows)
 unfolding betterIn
@@ -44,114 +45,119 @@ count-of k j h = count-at k 0 j h ∙ zero-add j
 abbrev pub fit : List ℕ → ℕ → List ℕ → ℕ → Bool
 fit t rows set c = inSet set c && allowedIn t rows c
 
--- x is the best of the first k columns that pass, 8 for none
-pub record Scan (ok : ℕ → Bool) (t : List ℕ) (rows k x : ℕ) : Type 0 where
-  pub most : x ≤ 8
-  pub none-yet : 8 ≤ x → (c : ℕ) → c < k → ok c ≡ true → ⊥
-  pub below : x < 8 → x < k
-  pub fits : x < 8 → ok x ≡ true
-  pub unbeaten : x < 8 → (c : ℕ) → c < k → ok c ≡ true → betterIn t rows c x ≡ true → ⊥
+-- x is the first of the first k columns in the set, 8 for none
+pub first-none : (t : List ℕ) (rows : ℕ) (set : List ℕ) → First t rows set 0 8
+first-none t rows set =
+    record { most = omega arith; none-in = λ h c l. absurd (omega arith); below = λ h. omega arith; in-set = λ h. absurd (omega arith); unbeaten = λ h. absurd (omega arith) }
 
-scan-none : (ok : ℕ → Bool) (t : List ℕ) (rows : ℕ) → Scan ok t rows 0 8
-scan-none ok t rows =
-    record { most = omega arith; none-yet = λ h c l. absurd (omega arith); below = λ h. omega arith; fits = λ h. absurd (omega arith); unbeaten = λ h. absurd (omega arith) }
-
-module _ (ok : ℕ → Bool) (t : List ℕ) (rows k x : ℕ) (w : Scan ok t rows k x) where
-  -- a column that does not pass, or that x is not worse than
-  keep : (ok k ≡ true → (8 ≤ x → ⊥) × (x < 8 → betterIn t rows k x ≡ true → ⊥)) → Scan ok t rows (k + 1) x
+module _ (t : List ℕ) (rows : ℕ) (set : List ℕ) (k x : ℕ) (w : First t rows set k x) where
+  -- a column that is not in the set, or that x is not worse than
+  keep : (inSet set k ≡ true → (8 ≤ x → ⊥) × (x < 8 → betterIn t rows k x ≡ true → ⊥)) → First t rows set (k + 1) x
   keep f =
       record {
         most = w .most;
-        none-yet = λ h c l e. first h c (decLt c k) l e;
+        none-in = λ h c l e. none h c (decLt c k) l e;
         below = λ h. let z = w .below h in omega arith;
-        fits = w .fits;
+        in-set = w .in-set;
         unbeaten = λ h c l e. worse h c (decLt c k) l e;
       }
     where
-      first : 8 ≤ x → (c : ℕ) → Dec (c < k) → c < k + 1 → ok c ≡ true → ⊥
-      first h c (yes l) b e = w .none-yet h c l e
-      first h c (no l) b e = let z : c ≡ k = omega arith in f (subst (λ (i : ℕ). ok i ≡ true) z e) .0 h
+      none : 8 ≤ x → (c : ℕ) → Dec (c < k) → c < k + 1 → inSet set c ≡ true → ⊥
+      none h c (yes l) b e = w .none-in h c l e
+      none h c (no l) b e = let z : c ≡ k = omega arith in f (subst (λ (i : ℕ). inSet set i ≡ true) z e) .0 h
 
-      worse : x < 8 → (c : ℕ) → Dec (c < k) → c < k + 1 → ok c ≡ true → betterIn t rows c x ≡ true → ⊥
+      worse : x < 8 → (c : ℕ) → Dec (c < k) → c < k + 1 → inSet set c ≡ true → betterIn t rows c x ≡ true → ⊥
       worse h c (yes l) b e q = w .unbeaten h c l e q
       worse h c (no l) b e q =
           let z : c ≡ k = omega arith in
-          f (subst (λ (i : ℕ). ok i ≡ true) z e) .1 h (subst (λ (i : ℕ). betterIn t rows i x ≡ true) z q)
+          f (subst (λ (i : ℕ). inSet set i ≡ true) z e) .1 h (subst (λ (i : ℕ). betterIn t rows i x ≡ true) z q)
 
   -- column k in place of x
-  take : k < 8 → ok k ≡ true → (x < 8 → betterIn t rows k x ≡ true) → Scan ok t rows (k + 1) k
+  take : k < 8 → inSet set k ≡ true → (x < 8 → betterIn t rows k x ≡ true) → First t rows set (k + 1) k
   take l f q =
       record {
         most = omega arith;
-        none-yet = λ h. absurd (omega arith);
+        none-in = λ h. absurd (omega arith);
         below = λ h. omega arith;
-        fits = λ h. f;
+        in-set = λ h. f;
         unbeaten = λ h c b e r. go c (decLt c k) b e r (decLt x 8);
       }
     where
-      go : (c : ℕ) → Dec (c < k) → c < k + 1 → ok c ≡ true → betterIn t rows c k ≡ true → Dec (x < 8) → ⊥
+      go : (c : ℕ) → Dec (c < k) → c < k + 1 → inSet set c ≡ true → betterIn t rows c k ≡ true → Dec (x < 8) → ⊥
       go c (yes b) d e r (yes y) = w .unbeaten y c b e (in-strict t rows .trans c k x r (q y))
-      go c (yes b) d e r (no y) = w .none-yet (omega arith) c b e
+      go c (yes b) d e r (no y) = w .none-in (omega arith) c b e
       go c (no b) d e r y = let z : c ≡ k = omega arith in in-strict t rows .irreflexive k (subst (λ (i : ℕ). betterIn t rows i k ≡ true) z r)
 
-  -- a column that passes, in place of x where it is better
-  turn : k < 8 → ok k ≡ true → Scan ok t rows (k + 1) (cond (leb 8 x || betterIn t rows k x) k x)
-  turn l f = go (decLt x 8)
+  pub first-out : (getD set k 0 ≡ 1 → ⊥) → First t rows set (k + 1) x
+  first-out e = keep (λ f. never (sym (ne-eqb (getD set k 0) 1 e) ∙ f))
+
+  pub first-in : {y c : ℕ} → k < c → c ≤ 8 → getD set k 0 ≡ 1 → y ≡ over t rows k x → First t rows set (k + 1) y
+  unfolding over
+  first-in h l e z = subst (First t rows set (k + 1)) (sym z) (go (decLt x 8))
     where
-      better : (b : Bool) → betterIn t rows k x ≡ b → x < 8 → Scan ok t rows (k + 1) (cond b k x)
-      better true q v = take l f (λ _. q)
+      here : inSet set k ≡ true
+      here = eq-eqb (getD set k 0) 1 e
+
+      better : (b : Bool) → betterIn t rows k x ≡ b → x < 8 → First t rows set (k + 1) (cond b k x)
+      better true q v = take (omega arith) here (λ _. q)
       better false q v = keep (λ f. ((λ u. omega arith), (λ u r. never (sym q ∙ r))))
 
-      go : Dec (x < 8) → Scan ok t rows (k + 1) (cond (leb 8 x || betterIn t rows k x) k x)
+      go : Dec (x < 8) → First t rows set (k + 1) (cond (leb 8 x || betterIn t rows k x) k x)
       go (yes v) = rw (lt-leb 8 x v) (better (betterIn t rows k x) refl v)
-      go (no v) = rw (le-leb 8 x (omega arith)) (take l f (λ u. absurd (omega arith)))
+      go (no v) = rw (le-leb 8 x (omega arith)) (take (omega arith) here (λ u. absurd (omega arith)))
 
--- ---- the set alone
+  pub first-done : {c : ℕ} → k ≤ c → c ≤ k → First t rows set c x
+  first-done {c} a b = subst (λ (n : ℕ). First t rows set n x) (let z : k ≡ c = omega arith in z) w
 
-pub record Leading (t : List ℕ) (rows : ℕ) (set : List ℕ) (k x : ℕ) : Type 0 where
-  pub scan : Scan (inSet set) t rows k x
+-- ---- the columns kept
 
-pub leading-none : (t : List ℕ) (rows : ℕ) (set : List ℕ) → Leading t rows set 0 8
-leading-none t rows set = record { scan = scan-none (inSet set) t rows }
+and-right : (b : Bool) → (b && true) ≡ b
+and-right true = refl
+and-right false = refl
 
-module _ (t : List ℕ) (rows : ℕ) (set : List ℕ) (k x : ℕ) (w : Leading t rows set k x) where
-  pub leading-out : (getD set k 0 ≡ 1 → ⊥) → Leading t rows set (k + 1) x
-  leading-out e = record { scan = keep (inSet set) t rows k x (w .scan) (λ f. never (sym (ne-eqb (getD set k 0) 1 e) ∙ f)) }
+and-never : (b : Bool) → (b && false) ≡ false
+and-never true = refl
+and-never false = refl
 
-  pub leading-in : {y c : ℕ} → k < c → c ≤ 8 → getD set k 0 ≡ 1 → y ≡ ahead t rows k x → Leading t rows set (k + 1) y
-  unfolding ahead
-  leading-in h l e z =
-      record { scan = subst (Scan (inSet set) t rows (k + 1)) (sym z) (turn (inSet set) t rows k x (w .scan) (omega arith) (eq-eqb (getD set k 0) 1 e)) }
+pub record Keeping (t : List ℕ) (rows : ℕ) (chosen : List ℕ) (k : ℕ) (kept : List ℕ) : Type 0 where
+  pub each : (c : ℕ) → c < k → inSet kept c ≡ fit t rows chosen c
+  pub long : length kept ≡ 8
 
-  pub leading-done : {c : ℕ} → k ≤ c → c ≤ k → Leads t rows set c x
-  leading-done {c} a b =
-      let v = w .scan in
-      subst (λ (n : ℕ). Leads t rows set n x) (let z : k ≡ c = omega arith in z)
-      (record { most = v .most; none-in = v .none-yet; below = v .below; in-set = v .fits; unbeaten = v .unbeaten })
+pub keeping-none : (t : List ℕ) (rows : ℕ) (chosen kept : List ℕ) → length kept ≡ 8 → Keeping t rows chosen 0 kept
+keeping-none t rows chosen kept l = record { each = λ c h. absurd (omega arith); long = l }
 
--- ---- those of it that no row forbids
-
-pub record Scanned (t : List ℕ) (rows : ℕ) (set : List ℕ) (k x : ℕ) : Type 0 where
-  pub scan : Scan (fit t rows set) t rows k x
-
-pub scanned-none : (t : List ℕ) (rows : ℕ) (set : List ℕ) → Scanned t rows set 0 8
-scanned-none t rows set = record { scan = scan-none (fit t rows set) t rows }
-
-module _ (t : List ℕ) (rows : ℕ) (set : List ℕ) (k x : ℕ) (w : Scanned t rows set k x) where
-  pub scanned-out : (getD set k 0 ≡ 1 → ⊥) → Scanned t rows set (k + 1) x
-  scanned-out e = record { scan = keep (fit t rows set) t rows k x (w .scan) (λ f. never (sym (rw (ne-eqb (getD set k 0) 1 e)) ∙ f)) }
-
-  pub scanned-in : {y c : ℕ} → k < c → c ≤ 8 → getD set k 0 ≡ 1 → y ≡ over t rows k x → Scanned t rows set (k + 1) y
-  unfolding over
-  scanned-in h l e z = record { scan = subst (Scan (fit t rows set) t rows (k + 1)) (sym z) (go (allowedIn t rows k) refl) }
+module _ (t : List ℕ) (rows : ℕ) (chosen : List ℕ) (k : ℕ) (kept : List ℕ) (w : Keeping t rows chosen k kept) {b : Bool} (e : b ≡ allowedIn t rows k) where
+  more : (x : ℕ) → k < 8 → eqb x 1 ≡ fit t rows chosen k → Keeping t rows chosen (k + 1) (set kept k x)
+  more x l q = record { each = λ c h. go c h (decLt c k); long = length-set kept k x ∙ w .long }
     where
-      go : (a : Bool) → allowedIn t rows k ≡ a → Scan (fit t rows set) t rows (k + 1) (cond (a && (leb 8 x || betterIn t rows k x)) k x)
-      go false q = keep (fit t rows set) t rows k x (w .scan) (λ f. never (sym q ∙ and-true (inSet set k) (allowedIn t rows k) f .1))
-      go true q = turn (fit t rows set) t rows k x (w .scan) (omega arith) (and-yes (eq-eqb (getD set k 0) 1 e) q)
+      go : (c : ℕ) → c < k + 1 → Dec (c < k) → inSet (set kept k x) c ≡ fit t rows chosen c
+      go c h (yes y) = ap (λ (i : ℕ). eqb i 1) (getD-set-other kept k c x 0 (λ z. omega arith)) ∙ w .each c y
+      go c h (no y) =
+          let z : c ≡ k = omega arith in
+          rw z (ap (λ (i : ℕ). eqb i 1) (getD-set-same kept k x 0 (omega (arith, w .long))) ∙ q)
 
-picked : (t : List ℕ) (rows : ℕ) (set : List ℕ) (k x : ℕ) {c : ℕ} → Scan (fit t rows set) t rows k x → k ≤ c → c ≤ k → Picked t rows set c x
+  pub keeping-allowed : {n : ℕ} → k < n → n ≤ 8 → b ≡ true → Keeping t rows chosen (k + 1) (set kept k (getD chosen k 0))
+  keeping-allowed h l z = more (getD chosen k 0) (omega arith) (rw (sym e ∙ z) (sym (and-right (inSet chosen k))))
+
+  pub keeping-forbidden : {n : ℕ} → k < n → n ≤ 8 → b ≡ false → Keeping t rows chosen (k + 1) (set kept k 0)
+  keeping-forbidden h l z = more 0 (omega arith) (rw (sym e ∙ z) (sym (and-never (inSet chosen k))))
+
+pub keeping-done : (t : List ℕ) (rows : ℕ) (chosen : List ℕ) (k : ℕ) (kept : List ℕ) {n : ℕ} → Keeping t rows chosen k kept → n ≤ k → Kept t rows chosen n kept
+keeping-done t rows chosen k kept w h = record { each = λ c l. w .each c (omega arith) }
+
+-- ---- the pick
+
+-- x as the best of the columns that may be taken
+record Fits (t : List ℕ) (rows : ℕ) (set : List ℕ) (k x : ℕ) : Type 0 where
+  most : x ≤ 8
+  none-yet : 8 ≤ x → (c : ℕ) → c < k → fit t rows set c ≡ true → ⊥
+  below : x < 8 → x < k
+  fits : x < 8 → fit t rows set x ≡ true
+  unbeaten : x < 8 → (c : ℕ) → c < k → fit t rows set c ≡ true → betterIn t rows c x ≡ true → ⊥
+
+picked : (t : List ℕ) (rows : ℕ) (set : List ℕ) (k x : ℕ) → Fits t rows set k x → Picked t rows set k x
 unfolding firstColumn
-picked t rows set k x {c} w a b = subst (λ (n : ℕ). Picked t rows set n x) (let z : k ≡ c = omega arith in z) (record { is = go (decLt x 8); most = w .most })
+picked t rows set k x w = record { is = go (decLt x 8); most = w .most }
   where
     go : Dec (x < 8) → x ≡ Option·getD (best (fit t rows set) (betterIn t rows) (countUp k 0)) 8
     go (yes h) =
@@ -166,17 +172,13 @@ picked t rows set k x {c} w a b = subst (λ (n : ℕ). Picked t rows set n x) (l
         (best-none-at (fit t rows set) (betterIn t rows) (in-strict t rows) (countUp k 0)
         (λ j l e. let m : j < k = omega (arith, count-length k 0) in w .none-yet (omega arith) j m (rw (count-of k j m) at e))))
 
-pub scanned-done : (t : List ℕ) (rows : ℕ) (set : List ℕ) (k x : ℕ) {c : ℕ} → Scanned t rows set k x → k ≤ c → c ≤ k → Picked t rows set c x
-scanned-done t rows set k x w a b = picked t rows set k x (w .scan) a b
-
--- ---- the first of the set, if no row forbids it or there is none
-
-module _ (t : List ℕ) (rows : ℕ) (set : List ℕ) (k x : ℕ) (w : Leads t rows set k x) where
+module _ (t : List ℕ) (rows : ℕ) (set : List ℕ) (k x : ℕ) where
   in-fit : (c : ℕ) → fit t rows set c ≡ true → inSet set c ≡ true
   in-fit c e = and-true (inSet set c) (allowedIn t rows c) e .0
 
-  pub picked-first : {b : Bool} → x < 8 → b ≡ allowedIn t rows x → b ≡ true → Picked t rows set k x
-  picked-first h e z =
+  -- the first of the set, if no row forbids it or there is none
+  pub picked-first : {b : Bool} → First t rows set k x → x < 8 → b ≡ allowedIn t rows x → b ≡ true → Picked t rows set k x
+  picked-first w h e z =
       picked t rows set k x
       (record {
         most = w .most;
@@ -185,10 +187,9 @@ module _ (t : List ℕ) (rows : ℕ) (set : List ℕ) (k x : ℕ) (w : Leads t r
         fits = λ l. and-yes (w .in-set l) (sym e ∙ z);
         unbeaten = λ l c m f. w .unbeaten l c m (in-fit c f);
       })
-      (omega arith) (omega arith)
 
-  pub picked-none : 8 ≤ x → Picked t rows set k x
-  picked-none h =
+  pub picked-none : First t rows set k x → 8 ≤ x → Picked t rows set k x
+  picked-none w h =
       picked t rows set k x
       (record {
         most = w .most;
@@ -197,4 +198,15 @@ module _ (t : List ℕ) (rows : ℕ) (set : List ℕ) (k x : ℕ) (w : Leads t r
         fits = λ l. absurd (omega arith);
         unbeaten = λ l. absurd (omega arith);
       })
-      (omega arith) (omega arith)
+
+  -- else the first of those that are kept
+  pub picked-kept : (kept : List ℕ) → Kept t rows set k kept → First t rows kept k x → Picked t rows set k x
+  picked-kept kept h w =
+      picked t rows set k x
+      (record {
+        most = w .most;
+        none-yet = λ l c m f. w .none-in l c m (h .each c m ∙ f);
+        below = w .below;
+        fits = λ l. sym (h .each x (w .below l)) ∙ w .in-set l;
+        unbeaten = λ l c m f. w .unbeaten l c m (h .each c m ∙ f);
+      })

@@ -1,16 +1,16 @@
 -- The loops over the rows: what is left from row j on equals the whole.
 -- Rests on the definitions of the order and of `every`.
-use mathlib.Core.Path.{_≡_, refl, ap, sym, _∙_}
-use mathlib.Core.Bool.{Bool, true, false, cond, not, _&&_, _||_}
+use mathlib.Core.Path.{_≡_, ap, sym, _∙_}
+use mathlib.Core.Bool.{Bool, true, false, cond, not}
 use mathlib.Core.List.{List, [], _∷_}
 use Prim.Native.Nat.{ℕ, suc, _+_, _-_, _*_, _≤_, _<_}
 use native.Mathlib.Omega.{arith}
 use borrow.Author.Tests.{lt-ltb, le-ltb, eq-eqb, ne-eqb, le-leb, lt-leb}
-use lib.Dec.{eqb, leb, ltb}
+use lib.Dec.{eqb, ltb}
 use lib.ListN.{getD}
 use Rattle.model.specs.Satisfaction.{every}
 use Rattle.model.specs.Order.{betterBy}
-use Rattle.order.specs.Order.{countUp, rankIn, betterIn, allowedIn, over, ahead}
+use Rattle.order.specs.Order.{countUp, rankIn, betterIn, allowedIn, over}
 
 pub next-row : (rows j : ℕ) → j < rows → countUp (rows - j) j ≡ j ∷ countUp (rows - (j + 1)) (j + 1)
 unfolding countUp
@@ -70,35 +70,14 @@ module _ (t : List ℕ) (rows k : ℕ) where
 
 -- one column in place of another
 module _ (t : List ℕ) (rows k x : ℕ) where
-  pub over-new : {a b : Bool} → x < 8 → b ≡ betterIn t rows k x → b ≡ true → a ≡ allowedIn t rows k → a ≡ true → k ≡ over t rows k x
+  pub over-new : {b : Bool} → x < 8 → b ≡ betterIn t rows k x → b ≡ true → k ≡ over t rows k x
   unfolding over
-  over-new h e f g i = rw (sym g ∙ i, lt-leb 8 x h, sym e ∙ f)
-
-  pub over-forbidden : {a : Bool} → a ≡ allowedIn t rows k → a ≡ false → x ≡ over t rows k x
-  unfolding over
-  over-forbidden g i = rw (sym g ∙ i)
+  over-new h e f = rw (lt-leb 8 x h, sym e ∙ f)
 
   pub over-worse : {b : Bool} → x < 8 → b ≡ betterIn t rows k x → b ≡ false → x ≡ over t rows k x
   unfolding over
-  over-worse h e f = go (allowedIn t rows k)
-    where
-      go : (c : Bool) → x ≡ cond (c && (leb 8 x || betterIn t rows k x)) k x
-      go true = rw (lt-leb 8 x h, sym e ∙ f)
-      go false = refl
+  over-worse h e f = rw (lt-leb 8 x h, sym e ∙ f)
 
-  pub over-none : {a : Bool} → 8 ≤ x → a ≡ allowedIn t rows k → a ≡ true → k ≡ over t rows k x
+  pub over-none : 8 ≤ x → k ≡ over t rows k x
   unfolding over
-  over-none h g i = rw (sym g ∙ i, le-leb 8 x h)
-
-  -- by the rows' order alone
-  pub ahead-new : {b : Bool} → x < 8 → b ≡ betterIn t rows k x → b ≡ true → k ≡ ahead t rows k x
-  unfolding ahead
-  ahead-new h e f = rw (lt-leb 8 x h, sym e ∙ f)
-
-  pub ahead-worse : {b : Bool} → x < 8 → b ≡ betterIn t rows k x → b ≡ false → x ≡ ahead t rows k x
-  unfolding ahead
-  ahead-worse h e f = rw (lt-leb 8 x h, sym e ∙ f)
-
-  pub ahead-none : 8 ≤ x → k ≡ ahead t rows k x
-  unfolding ahead
-  ahead-none h = rw (le-leb 8 x h)
+  over-none h = rw (le-leb 8 x h)

@@ -40,18 +40,20 @@ pub record Picked (t : List ℕ) (rows : ℕ) (set : List ℕ) (k r : ℕ) : Typ
   pub is : r ≡ firstColumn t rows set k
   pub most : r ≤ 8
 
--- column k in place of x, 8 for none, where no row forbids k and it is better
-unfoldable pub over : List ℕ → ℕ → ℕ → ℕ → ℕ
-over t rows k x = cond (allowedIn t rows k && (leb 8 x || betterIn t rows k x)) k x
+-- ---- for the contracts of functions that no other crate calls
 
 -- column k in place of x, 8 for none, where it is better
-unfoldable pub ahead : List ℕ → ℕ → ℕ → ℕ → ℕ
-ahead t rows k x = cond (leb 8 x || betterIn t rows k x) k x
+unfoldable pub over : List ℕ → ℕ → ℕ → ℕ → ℕ
+over t rows k x = cond (leb 8 x || betterIn t rows k x) k x
 
--- r is of the first k columns the one that comes first in the set, whether a row forbids it or not; 8 for none
-pub record Leads (t : List ℕ) (rows : ℕ) (set : List ℕ) (k r : ℕ) : Type 0 where
+-- r is of the first k columns the one that comes first in the set; 8 for none
+pub record First (t : List ℕ) (rows : ℕ) (set : List ℕ) (k r : ℕ) : Type 0 where
   pub most : r ≤ 8
   pub none-in : 8 ≤ r → (c : ℕ) → c < k → inSet set c ≡ true → ⊥
   pub below : r < 8 → r < k
   pub in-set : r < 8 → inSet set r ≡ true
   pub unbeaten : r < 8 → (c : ℕ) → c < k → inSet set c ≡ true → betterIn t rows c r ≡ true → ⊥
+
+-- the first k columns of kept are those of the set that no row forbids
+pub record Kept (t : List ℕ) (rows : ℕ) (set : List ℕ) (k : ℕ) (kept : List ℕ) : Type 0 where
+  pub each : (c : ℕ) → c < k → inSet kept c ≡ (inSet set c && allowedIn t rows c)

@@ -1,7 +1,8 @@
 // What picks among a node's successors: it takes their ranks and the set of those that can be met, and no bytes.
 ghost use mathlib.Core.Path.{_≡_};
 ghost use Prim.Native.Nat.{_+_, _*_, _<_, _≤_};
-ghost use Rattle.order.specs.Order.{betterIn, allowedIn, over, ahead, Picked, Leads};
+ghost use lib.ListN.{length};
+ghost use Rattle.order.specs.Order.{betterIn, allowedIn, over, First, Kept, Picked};
 
 // Whether column p is better than column q.
 fn is_better(ranks: &[u8; 128], rows: usize, p: usize, q: usize) -> bool
@@ -41,7 +42,7 @@ fn is_allowed(ranks: &[u8; 128], rows: usize, k: usize) -> bool
     true
 }
 
-// Column k in place of x, which is 8 for none, where k may be taken and is better.
+// Column k in place of x, which is 8 for none, where k is better.
 fn better_of(ranks: &[u8; 128], rows: usize, k: usize, x: usize) -> usize
     requires { ⌜ rows ≤ 16 ⌝ }
     requires { ⌜ k < 8 ⌝ }
@@ -50,24 +51,18 @@ fn better_of(ranks: &[u8; 128], rows: usize, k: usize, x: usize) -> usize
 {
     if x < 8 {
         if is_better(ranks, rows, k, x) {
-            if is_allowed(ranks, rows, k) {
-                return k;
-            }
-            return x;
+            return k;
         }
         return x;
     }
-    if is_allowed(ranks, rows, k) {
-        return k;
-    }
-    x
+    k
 }
 
-// The column that comes first among those in the set that no row forbids, 8 if there is none: each is held to the rows.
-fn pick_allowed(ranks: &[u8; 128], rows: usize, columns: usize, set: &[u8; 8]) -> usize
+// The column that comes first in a set, 8 if there is none.
+fn first_in(ranks: &[u8; 128], rows: usize, columns: usize, set: &[u8; 8]) -> usize
     requires { ⌜ rows ≤ 16 ⌝ }
     requires { ⌜ columns ≤ 8 ⌝ }
-    ensures { λ r. ⌜ Picked (now (ranks .entry)) rows (now (set .entry)) columns r ⌝ }
+    ensures { λ r. ⌜ First (now (ranks .entry)) rows (now (set .entry)) columns r ⌝ }
 {
     let mut x: usize = 8;
     let mut k: usize = 0;
@@ -82,39 +77,23 @@ fn pick_allowed(ranks: &[u8; 128], rows: usize, columns: usize, set: &[u8; 8]) -
     x
 }
 
-// Column k in place of x, which is 8 for none, where k is better.
-fn leader(ranks: &[u8; 128], rows: usize, k: usize, x: usize) -> usize
-    requires { ⌜ rows ≤ 16 ⌝ }
-    requires { ⌜ k < 8 ⌝ }
-    requires { ⌜ x ≤ 8 ⌝ }
-    ensures { λ r. ⌜ r ≡ ahead (now (ranks .entry)) rows k x ⌝ }
-{
-    if x < 8 {
-        if is_better(ranks, rows, k, x) {
-            return k;
-        }
-        return x;
-    }
-    k
-}
-
-// The column that comes first in the set, whether a row forbids it or not, 8 if there is none.
-fn lead(ranks: &[u8; 128], rows: usize, columns: usize, set: &[u8; 8]) -> usize
+// The columns of a set that no row forbids.
+fn keep_allowed(ranks: &[u8; 128], rows: usize, columns: usize, set: &[u8; 8], kept: &mut [u8; 8])
     requires { ⌜ rows ≤ 16 ⌝ }
     requires { ⌜ columns ≤ 8 ⌝ }
-    ensures { λ r. ⌜ Leads (now (ranks .entry)) rows (now (set .entry)) columns r ⌝ }
+    requires { ⌜ length (now kept) ≡ 8 ⌝ }
+    ensures { λ _. ⌜ Kept (now (ranks .entry)) rows (now (set .entry)) columns (now (kept .exit)) ⌝ }
 {
-    let mut x: usize = 8;
     let mut k: usize = 0;
     while k < columns {
-        if set[k] == 1 {
-            x = leader(ranks, rows, k, x);
+        if is_allowed(ranks, rows, k) {
+            kept[k] = set[k];
             k += 1;
         } else {
+            kept[k] = 0;
             k += 1;
         }
     }
-    x
 }
 
 // The column that comes first among those in the set that no row forbids, 8 if there is none: as a rule the first of the
@@ -124,12 +103,14 @@ pub fn pick(ranks: &[u8; 128], rows: usize, columns: usize, set: &[u8; 8]) -> us
     requires { ⌜ columns ≤ 8 ⌝ }
     ensures { λ r. ⌜ Picked (now (ranks .entry)) rows (now (set .entry)) columns r ⌝ }
 {
-    let x = lead(ranks, rows, columns, set);
+    let x = first_in(ranks, rows, columns, set);
     if x < 8 {
         if is_allowed(ranks, rows, x) {
             return x;
         }
-        return pick_allowed(ranks, rows, columns, set);
+        let mut kept = [0u8; 8];
+        keep_allowed(ranks, rows, columns, set, &mut kept);
+        return first_in(ranks, rows, columns, &kept);
     }
     x
 }
