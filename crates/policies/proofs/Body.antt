@@ -25,8 +25,12 @@ use Rattle.schema.specs.declared.Variable.{Variable}
 use Rattle.schema.specs.declared.Variable.the-variants.{Number, Listed}
 use Rattle.schema.proofs.Accepted.{file-of, view}
 use Rattle.policies.specs.Policies.{Condition, range, mask, rankCount, ranks, condition, conditions, ruleOf}
-use Rattle.policies.specs.Body.{span, spans, offsetOf, mostOf, bodyWidth, shapeFrom, shapeOf, Laid, noneOver, Looking}
+use Rattle.policies.specs.Body.{span, spans, offsetOf, mostOf, shapeFrom, shapeOf, Laid, noneOver, Looking}
 use Rattle.policies.proofs.Nodes.{nodes-few}
+
+-- the bytes of a node's ranks and conditions
+unfoldable bodyWidth : Node → ℕ
+bodyWidth x = offsetOf x (length (x .variables))
 
 -- ---- the law: such a PN is read to its end
 

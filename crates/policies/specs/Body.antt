@@ -32,11 +32,7 @@ unfoldable pub mostOf : Variable → ℕ
 mostOf (Number lo hi) = 4294967295
 mostOf (Listed size) = cond (leb size 32) (ones size) 4294967295
 
--- the bytes of a node's ranks and conditions
-unfoldable pub bodyWidth : Node → ℕ
-bodyWidth x = offsetOf x (length (x .variables))
-
--- eight times that width, and how many variables there are up to the last listed one
+-- eight times the bytes of a node's ranks and conditions, and how many variables there are up to the last listed one
 unfoldable pub shapeFrom : List Variable → ℕ → ℕ → ℕ → ℕ
 shapeFrom [] w k f = 8 * w + f
 shapeFrom (Number lo hi ∷ vs) w k f = shapeFrom vs (w + 8) (k + 1) f

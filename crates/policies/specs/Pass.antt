@@ -17,6 +17,7 @@ pass a b = cond (leb a b && leb b (a + 1)) (got a 0) (bad 12 0)
 unfoldable pub inForce : ℕ → ℕ → Policy → Bool
 inForce a b x = leb (x .first) b && leb a (x .last)
 
+-- those of a list that are in force, in file order
 unfoldable pub forced : ℕ → ℕ → List Policy → List Policy
 forced a b [] = []
 forced a b (x ∷ xs) = cond (inForce a b x) (x ∷ forced a b xs) (forced a b xs)

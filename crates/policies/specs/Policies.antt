@@ -134,6 +134,7 @@ policyAt ps j = getD ps j noPolicy
 abbrev pub noRule : Rule
 noRule = record { node = 0; ranks = []; conditions = [] }
 
+-- its PN of the node; each policy names a node once at most
 unfoldable pub ruleFor : ℕ → List Rule → Rule
 ruleFor n [] = noRule
 ruleFor n (x ∷ xs) = cond (eqb (x .node) n) x (ruleFor n xs)

@@ -23,7 +23,7 @@ use Rattle.model.specs.Reconciling.{isSome, leastEach, taken, canStep}
 use Rattle.order.specs.Order.{inSet}
 use Rattle.conditions.specs.Held.{conditionsIn, Combined}
 use Rattle.conditions.specs.declared.Conditions.{Conditions}
-use Rattle.reconciler.specs.Plan.{LeastIn, Columns, columnOf, Chosen, rulesIn, NodePlanned}
+use Rattle.reconciler.specs.Plan.{LeastIn, Columns, successorIn, Chosen, rulesIn, NodePlanned}
 use Rattle.reconciler.specs.declared.Plan.the-variants.{Unmet, Met, Take}
 
 pub node-below : (schema table : List ℕ) (n : ℕ) → NodeIn schema table n → n < length (schemaOf schema)
@@ -66,7 +66,7 @@ module _ (schema table p : List ℕ) (a b n : ℕ) (nodes t₀ t : List ℕ) {c 
 
     module _ {q : Bool} (i : q ≡ chooses (nodeAt (schemaOf schema) n)) where
       pub node-take : {k s : ℕ} → q ≡ true → Chosen schema p a b n nodes k → k < 8 → SuccessorIs (schemaOf schema) n k s → NodePlanned schema p a b n nodes t₀ t (Take s)
-      unfolding canStep columnOf
+      unfolding canStep successorIn
       node-take {k} {s} y d l x =
           let f = file-of schema (let z = h .below in omega arith) in
           let o : taken (schemaOf schema) (rulesIn schema p a b) (inSet nodes) n ≡ some s = sym (d .is) ∙ rw (lt-ltb k 8 l) (ap {B = Option ℕ} some (sym (x .is))) in
@@ -81,7 +81,7 @@ module _ (schema table p : List ℕ) (a b n : ℕ) (nodes t₀ t : List ℕ) {c 
           }
 
       pub node-none : {k : ℕ} → q ≡ true → Chosen schema p a b n nodes k → 8 ≤ k → NodePlanned schema p a b n nodes t₀ t Unmet
-      unfolding canStep columnOf
+      unfolding canStep successorIn
       node-none {k} y d l =
           let o : taken (schemaOf schema) (rulesIn schema p a b) (inSet nodes) n ≡ none = sym (d .is) ∙ rw (le-ltb k 8 l) in
           let u : chooses (nodeAt (schemaOf schema) n) ≡ true = sym i ∙ y in

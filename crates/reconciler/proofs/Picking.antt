@@ -30,7 +30,7 @@ use Rattle.model.proofs.Ranks.{allowed-at, better-at, better-strict, better-tot
 use Rattle.order.specs.Order.{countUp, rankIn, betterIn, allowedIn, inSet, firstColumn, Picked}
 use Rattle.order.proofs.Best.{in-strict, count-length, count-of}
 use Rattle.conditions.specs.Places.{Found}
-use Rattle.reconciler.specs.Plan.{Columns, Ranked, SuccessorsIn, columnOf, Chosen}
+use Rattle.reconciler.specs.Plan.{Columns, Ranked, SuccessorsIn, successorIn, Chosen}
 
 -- ---- the table says what the policies say
 
@@ -121,11 +121,11 @@ module _ (schema : List ℕ) (A : Sound (schemaOf schema)) (ps : List Policy) (n
   to-ok k h q = let z = and-true (allowed (schemaOf schema) ps n (at k)) (inSet nodes (at k)) q in and-yes (S .each k h ∙ z .1) (same-allowed k h ∙ z .0)
 
   record Takes (o : Option ℕ) : Type 0 where
-    is : columnOf (schemaOf schema) n (Option·getD o 8) ≡ best may (better (schemaOf schema) ps n) (nodeAt (schemaOf schema) n .successors)
+    is : successorIn (schemaOf schema) n (Option·getD o 8) ≡ best may (better (schemaOf schema) ps n) (nodeAt (schemaOf schema) n .successors)
     inside : Option·getD o 8 < 8 → Option·getD o 8 < length (nodeAt (schemaOf schema) n .successors)
 
   takes : (o : Option ℕ) → IsBest ok (betterIn t rows) (countUp columns 0) o → Takes o
-  unfolding columnOf at
+  unfolding successorIn at
   takes none (no-best f) =
       record {
         is = sym (best-none-at may (better (schemaOf schema) ps n) (better-strict (schemaOf schema) ps n) (nodeAt (schemaOf schema) n .successors)
@@ -147,11 +147,11 @@ module _ (schema : List ℕ) (A : Sound (schemaOf schema)) (ps : List Policy) (n
       }
 
   pub picked-takes : {r : ℕ} → Picked t rows set columns r
-      → (columnOf (schemaOf schema) n r ≡ taken (schemaOf schema) (rulesOf (schemaOf schema) ps) (inSet nodes) n) × (r < 8 → r < length (nodeAt (schemaOf schema) n .successors))
+      → (successorIn (schemaOf schema) n r ≡ taken (schemaOf schema) (rulesOf (schemaOf schema) ps) (inSet nodes) n) × (r < 8 → r < length (nodeAt (schemaOf schema) n .successors))
   unfolding firstColumn taken ok may
   picked-takes {r} P =
       let w = takes (best ok (betterIn t rows) (countUp columns 0)) (best-is ok (betterIn t rows) (in-strict t rows) (countUp columns 0)) in
-      (ap (columnOf (schemaOf schema) n) (P .is) ∙ w .is, subst (λ (x : ℕ). x < 8 → x < length (nodeAt (schemaOf schema) n .successors)) (sym (P .is)) (w .inside))
+      (ap (successorIn (schemaOf schema) n) (P .is) ∙ w .is, subst (λ (x : ℕ). x < 8 → x < length (nodeAt (schemaOf schema) n .successors)) (sym (P .is)) (w .inside))
 
 pub chosen-is : (schema table p : List ℕ) (a b n : ℕ) (places nodes set t : List ℕ) {rows columns r : ℕ} → NodeIn schema table n → Bytes schema → Found schema p a b n rows places → Columns schema n columns
     → Ranked (forced a b (policiesOf (schemaOf schema) p)) n rows columns t → SuccessorsIn (schemaOf schema) n columns nodes set → Picked t rows set columns r → Chosen schema p a b n nodes r

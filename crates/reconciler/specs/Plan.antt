@@ -71,12 +71,12 @@ pub record SuccessorsIn (g : List Node) (n columns : ℕ) (nodes t : List ℕ) :
   pub each : (k : ℕ) → k < columns → inSet t k ≡ inSet nodes (getD (nodeAt g n .successors) k 0)
 
 -- the successor in column k, none for column 8
-unfoldable pub columnOf : List Node → ℕ → ℕ → Option ℕ
-columnOf g n k = cond (ltb k 8) (some (getD (nodeAt g n .successors) k 0)) none
+unfoldable pub successorIn : List Node → ℕ → ℕ → Option ℕ
+successorIn g n k = cond (ltb k 8) (some (getD (nodeAt g n .successors) k 0)) none
 
 -- column r is that of the successor that the model takes, where a set tells which nodes can be met
 pub record Chosen (schema p : List ℕ) (a b n : ℕ) (nodes : List ℕ) (r : ℕ) : Type 0 where
-  pub is : columnOf (schemaOf schema) n r
+  pub is : successorIn (schemaOf schema) n r
       ≡ taken (schemaOf schema) (rulesOf (schemaOf schema) (forced a b (policiesOf (schemaOf schema) p))) (inSet nodes) n
   pub inside : r < 8 → r < length (nodeAt (schemaOf schema) n .successors)
 

@@ -11,7 +11,7 @@ use lib.Signed.{leZ, mag}
 use mir.Val.{toZ, ofZ}
 use mir.ValLaws.{toZ-ofZ}
 use mir.Syntax.{w32}
-use Rattle.fields.specs.Reading.{Got, got, bad, part, whole, field, signed}
+use Rattle.fields.specs.Reading.{Got, got, part, whole, field, signed}
 use Rattle.fields.specs.Answers.{fieldOf, signedOf, stepOf, judged, success, refusal}
 use Rattle.fields.specs.declared.Answer.{Answer}
 use Rattle.fields.specs.declared.Field.{Field}
@@ -20,25 +20,12 @@ use Rattle.fields.specs.declared.SignedField.{SignedField}
 use Rattle.fields.specs.declared.SignedField.the-variants.{Signed, NoSigned}
 use Rattle.fields.specs.declared.Step.{Step}
 use Rattle.fields.specs.declared.Step.the-variants.{Next, Bad}
-use Rattle.fields.proofs.Reading.{field-ok, took, stepped, stopped}
+use Rattle.fields.proofs.Reading.{field-ok, took, stepped, stopped, told, untold}
 use Rattle.fields.proofs.Loops.{many-more, many-done, many-stop, many-turn}
 use Rattle.fields.proofs.Tests.{and-yes}
 use Rattle.schema.specs.Schema.{number, listed, variable, variables, successors, node, nodes}
 
 -- a number's two bounds
-record Told (g : Got ℕ) (z : ℤ) (q : ℕ) : Type 0 where
-  u : ℕ
-  read : g ≡ got u q
-  is : z ≡ signed u
-
-told : (g : Got ℕ) {f : SignedField} {z : ℤ} {q : ℕ} → f ≡ signedOf g → f ≡ Signed z q → Told g z q
-told (got u p) e h = record { u = u; read = cc; is = cc }
-told (bad n o) e h = absurd (let z : _≡_ {A = ℕ} 0 1 = cc in omega arith)
-
-untold : (g : Got ℕ) {f : SignedField} {n o : ℕ} → f ≡ signedOf g → f ≡ NoSigned n o → g ≡ bad n o
-untold (got a p) e h = cc
-untold (bad n o) e h = cc
-
 module _ (s : List ℕ) (p : ℕ) {u v p₁ q : ℕ} {lo hi : ℤ} (e : whole 4 s p ≡ got u p₁) (h : whole 4 s p₁ ≡ got v q) (a : lo ≡ signed u) (b : hi ≡ signed v) where
   in-order : leZ lo hi ≡ true → Next q ≡ stepOf (number s p)
   unfolding number part field
