@@ -1,1 +1,3 @@
 pub mod Printing
+pub mod Parts
+pub mod Room
