@@ -3,12 +3,12 @@
 use mathlib.Core.Path.{_≡_, refl, ap, sym, _∙_}
 use mathlib.Core.Bool.{Bool, true, false}
 use mathlib.Core.List.{List}
-use Prim.Native.Nat.{ℕ, _+_, _*_, _≤_, _<_}
+use Prim.Native.Nat.{ℕ, _+_, _≤_, _<_}
 use native.Mathlib.Omega.{arith}
 use borrow.Author.Tests.{le-leb, lt-leb, le-ltb, lt-ltb, eq-eqb, ne-eqb}
 use lib.Dec.{eqb}
 use lib.IntN.{ℤ}
-use lib.ListN.{length, getD}
+use lib.ListN.{length}
 use Rattle.fields.specs.Reading.{Got, got, bad, part, be, whole, field, mark, ended, signed}
 use Rattle.fields.specs.Answers.{fieldOf, signedOf, stepOf}
 use Rattle.fields.specs.declared.Field.{Field}
@@ -18,7 +18,6 @@ use Rattle.fields.specs.declared.SignedField.the-variants.{Signed, NoSig
 use Rattle.fields.specs.declared.Step.{Step}
 use Rattle.fields.specs.declared.Step.the-variants.{Next, Bad}
 use Rattle.fields.proofs.Tests.{tests}
-use Rattle.fields.proofs.Bytes.{be2}
 
 -- w bytes, from the code's test of the length
 module _ (w : ℕ) (s : List ℕ) (p : ℕ) where
@@ -133,13 +132,13 @@ module _ {B : Type 0} (m s : List ℕ) (p : ℕ) (k : ℕ → ℕ → Got B) {f 
 
 -- the two letters are compared as one number
 module _ (m s : List ℕ) (p : ℕ) {f : Field} where
-  pub mark-yes : {v q j : ℕ} → f ≡ fieldOf (whole 2 s p) → f ≡ Value v q → j ≡ getD m 0 0 * 256 + getD m 1 0 → v ≡ j → Next q ≡ stepOf (mark m s p)
+  pub mark-yes : {v q j : ℕ} → f ≡ fieldOf (whole 2 s p) → f ≡ Value v q → j ≡ be 2 m 0 → v ≡ j → Next q ≡ stepOf (mark m s p)
   unfolding mark
-  mark-yes {v} {q} e h j z = step-ok 2 1 (λ v. eqb v (be 2 m 0)) s p got e h (eq-eqb v (be 2 m 0) (z ∙ j ∙ sym (be2 m 0))) refl
+  mark-yes {v} {q} e h j z = step-ok 2 1 (λ v. eqb v (be 2 m 0)) s p got e h (eq-eqb v (be 2 m 0) (z ∙ j)) refl
 
-  pub mark-no : {v q j : ℕ} → f ≡ fieldOf (whole 2 s p) → f ≡ Value v q → j ≡ getD m 0 0 * 256 + getD m 1 0 → (v ≡ j → ⊥) → Bad 1 p ≡ stepOf (mark m s p)
+  pub mark-no : {v q j : ℕ} → f ≡ fieldOf (whole 2 s p) → f ≡ Value v q → j ≡ be 2 m 0 → (v ≡ j → ⊥) → Bad 1 p ≡ stepOf (mark m s p)
   unfolding mark
-  mark-no {v} {q} e h j z = step-bad 2 1 (λ v. eqb v (be 2 m 0)) s p got e h (ne-eqb v (be 2 m 0) (λ w. z (w ∙ be2 m 0 ∙ sym j)))
+  mark-no {v} {q} e h j z = step-bad 2 1 (λ v. eqb v (be 2 m 0)) s p got e h (ne-eqb v (be 2 m 0) (λ w. z (w ∙ sym j)))
 
 -- a signed field
 pub signed-is : (g : Got ℕ) {f : Field} {v q : ℕ} {z : ℤ} → f ≡ fieldOf g → f ≡ Value v q → z ≡ signed v → Signed z q ≡ signedOf g

@@ -99,7 +99,7 @@ fn reach(schema: &[u8], table: &[usize], n: usize, c: usize, m: u64) -> u64
 fn read_number(lo: i32, hi: i32, s: &[u8], at: usize) -> Step
     ensures { λ r. ⌜ r ≡ stepOf (value (now (s .entry)) (Variable.Number lo hi) at) ⌝ }
 {
-    match fields::read_i32(s, at) {
+    match reading::read_i32(s, at) {
         SignedField::NoSigned { number, offset } => Step::Bad { number, offset },
         SignedField::Signed { value, next } => {
             if lo <= value {
@@ -122,7 +122,7 @@ fn read_number(lo: i32, hi: i32, s: &[u8], at: usize) -> Step
 fn read_listed(size: u8, s: &[u8], at: usize) -> Step
     ensures { λ r. ⌜ r ≡ stepOf (value (now (s .entry)) (Variable.Listed size) at) ⌝ }
 {
-    match fields::read_u8(s, at) {
+    match reading::read_u8(s, at) {
         Field::Cut { number, offset } => Step::Bad { number, offset },
         Field::Value { value, next } => {
             if value < size as u32 {
@@ -179,7 +179,7 @@ fn read_entry_of(
     requires { ⌜ NodeIn (now schema) (now table) n ⌝ }
     ensures { λ r. ⌜ r ≡ entryIn (schemaOf (now (schema .entry))) due (entryOf (now (s .entry)) (schemaOf (now (schema .entry))) n at) ⌝ }
 {
-    match fields::read_u8(s, at) {
+    match reading::read_u8(s, at) {
         Field::Cut { number, offset } => EntryRead::NoEntry { number, offset },
         Field::Value { value, next } => {
             let c = value as usize;
@@ -207,9 +207,9 @@ fn read_entry(schema: &[u8], table: &[usize], due: u64, s: &[u8], from: usize) -
     requires { ⌜ Within due (length (schemaOf (now schema))) ⌝ }
     ensures { λ r. ⌜ r ≡ entryIn (schemaOf (now (schema .entry))) due (entryWhere (now (s .entry)) (schemaOf (now (schema .entry))) (bit due) from) ⌝ }
 {
-    match fields::read_mark(s, from, b"IN") {
+    match reading::read_mark(s, from, b"IN") {
         Step::Bad { number, offset } => EntryRead::NoEntry { number, offset },
-        Step::Next { at } => match fields::read_u8(s, at) {
+        Step::Next { at } => match reading::read_u8(s, at) {
             Field::Cut { number, offset } => EntryRead::NoEntry { number, offset },
             Field::Value { value, next } => {
                 if due == 0 {
@@ -267,9 +267,9 @@ pub fn read_instance(schema: &[u8], table: &[usize], s: &[u8]) -> Step
     requires { ⌜ Tabled (now schema) (now table) ⌝ }
     ensures { λ r. ⌜ r ≡ stepOf (instance (schemaOf (now (schema .entry))) (now (s .entry))) ⌝ }
 {
-    match fields::read_mark(s, 0, b"IH") {
+    match reading::read_mark(s, 0, b"IH") {
         Step::Bad { number, offset } => Step::Bad { number, offset },
-        Step::Next { at } => match fields::read_u8(s, at) {
+        Step::Next { at } => match reading::read_u8(s, at) {
             Field::Cut { number, offset } => Step::Bad { number, offset },
             Field::Value { value, next } => match read_entries(schema, table, s, value, next) {
                 Step::Bad { number, offset } => Step::Bad { number, offset },
@@ -337,11 +337,11 @@ fn put_value(v: Variable, u: u32, out: &mut [u8], at: usize) -> usize
 {
     match v {
         Variable::Number { lo: _, hi: _ } => {
-            fields::put_u32(out, at, u);
+            writing::put_u32(out, at, u);
             at + 4
         }
         Variable::Listed { size: _ } => {
-            fields::put_u8(out, at, (u % 256) as u8);
+            writing::put_u8(out, at, (u % 256) as u8);
             at + 1
         }
     }
@@ -385,9 +385,9 @@ fn put_entry(
     requires { ⌜ from + 20 ≤ length (now out) ⌝ }
     ensures { λ r. ⌜ Wrote (now (out .entry)) from (encodeEntry (schemaOf (now (schema .entry))) (planOf (schemaOf (now (schema .entry))) (now (choices .entry)) (now (bits .entry)) n)) (now (out .exit)) r ⌝ }
 {
-    fields::put_mark(out, from, b"IN");
-    fields::put_u8(out, from + 2, n as u8);
-    fields::put_u8(out, from + 3, choices[n]);
+    writing::put_mark(out, from, b"IN");
+    writing::put_u8(out, from + 2, n as u8);
+    writing::put_u8(out, from + 3, choices[n]);
     put_values(schema, table, n, bits, out, from + 4)
 }
 
@@ -442,8 +442,8 @@ pub fn write_planned(
     ensures { λ r. ⌜ Wrote (now (out .entry)) 0 (encode (schemaOf (now (schema .entry))) (planned (schemaOf (now (schema .entry))) (planOf (schemaOf (now (schema .entry))) (now (choices .entry)) (now (bits .entry))))) (now (out .exit)) r ⌝ }
 {
     let put = put_entries(schema, table, choices, bits, out);
-    fields::put_mark(out, 0, b"IH");
-    fields::put_u8(out, 2, put.count);
+    writing::put_mark(out, 0, b"IH");
+    writing::put_u8(out, 2, put.count);
     put.end
 }
 

@@ -26,11 +26,11 @@ fn narrow(x: u32) -> u16
 pub fn read_pass(s: &[u8], at: usize) -> PassRead
     ensures { λ r. ⌜ passAt (now (s .entry)) at ≡ passIn r ⌝ }
 {
-    match fields::read_mark(s, at, b"PS") {
+    match reading::read_mark(s, at, b"PS") {
         Step::Bad { number, offset } => PassRead::NoPass { number, offset },
-        Step::Next { at } => match fields::read_u16(s, at) {
+        Step::Next { at } => match reading::read_u16(s, at) {
             Field::Cut { number, offset } => PassRead::NoPass { number, offset },
-            Field::Value { value: a, next } => match fields::read_u16(s, next) {
+            Field::Value { value: a, next } => match reading::read_u16(s, next) {
                 Field::Cut { number, offset } => PassRead::NoPass { number, offset },
                 Field::Value { value: b, next } => PassRead::Days {
                     a: narrow(a),
@@ -163,9 +163,9 @@ pub fn put_bad_line(out: &mut [u8], at: usize, number: u8, offset: u64) -> usize
     requires { ⌜ at + 64 ≤ length (now out) ⌝ }
     ensures { λ r. ⌜ Laid 64 (now (out .entry)) at (badLineOf number offset) (now (out .exit)) r ⌝ }
 {
-    fields::put_mark(out, at, b"- ");
-    fields::put_mark(out, at + 2, b"- ");
+    writing::put_mark(out, at, b"- ");
+    writing::put_mark(out, at + 2, b"- ");
     let at = put_verdict(out, at + 4, number, 3, offset);
-    fields::put_mark(out, at, b"-\n");
+    writing::put_mark(out, at, b"-\n");
     at + 2
 }

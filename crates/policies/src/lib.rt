@@ -52,14 +52,14 @@ pub enum PoliciesRead {
 fn read_head(b: &[u8]) -> HeadRead
     ensures { λ r. ⌜ head (now (b .entry)) ≡ headIn r ⌝ }
 {
-    match fields::read_mark(b, 0, b"PH") {
+    match reading::read_mark(b, 0, b"PH") {
         Step::Bad { number, offset } => HeadRead::NoHead { number, offset },
-        Step::Next { at } => match fields::read_u16(b, at) {
+        Step::Next { at } => match reading::read_u16(b, at) {
             Field::Cut { number, offset } => HeadRead::NoHead { number, offset },
             Field::Value {
                 value: first,
                 next: at,
-            } => match fields::read_u16(b, at) {
+            } => match reading::read_u16(b, at) {
                 Field::Cut { number, offset } => HeadRead::NoHead { number, offset },
                 Field::Value { value: last, next } => {
                     if last < first {
@@ -68,7 +68,7 @@ fn read_head(b: &[u8]) -> HeadRead
                             offset: at,
                         };
                     }
-                    match fields::read_u8(b, next) {
+                    match reading::read_u8(b, next) {
                         Field::Cut { number, offset } => HeadRead::NoHead { number, offset },
                         Field::Value { value: count, next } => HeadRead::Found {
                             first,
@@ -129,7 +129,7 @@ fn read_ranks(b: &[u8], k: usize, from: usize) -> Step
     let mut left = k;
     let mut at = from;
     while 0 < left {
-        match fields::read_u8(b, at) {
+        match reading::read_u8(b, at) {
             Field::Cut { number, offset } => {
                 return Step::Bad { number, offset };
             }
@@ -146,10 +146,10 @@ fn read_ranks(b: &[u8], k: usize, from: usize) -> Step
 fn read_condition(b: &[u8], v: Variable, at: usize) -> Step
     ensures { λ r. ⌜ r ≡ stepOf (condition (now (b .entry)) v at) ⌝ }
 {
-    match fields::read_u32(b, at) {
+    match reading::read_u32(b, at) {
         Field::Cut { number, offset } => Step::Bad { number, offset },
         Field::Value { value, next } => match v {
-            Variable::Number { lo: _, hi: _ } => match fields::read_u32(b, next) {
+            Variable::Number { lo: _, hi: _ } => match reading::read_u32(b, next) {
                 Field::Cut { number, offset } => Step::Bad { number, offset },
                 Field::Value { value: _, next } => Step::Next { at: next },
             },
@@ -369,9 +369,9 @@ fn read_rule(
     requires { ⌜ ahead ≡ getD (now layout) low 0 ⌝ }
     ensures { λ r. ⌜ r ≡ ruleRead from (rule (schemaOf (now (schema .entry))) (now (b .entry)) low from) ⌝ }
 {
-    match fields::read_mark(b, from, b"PN") {
+    match reading::read_mark(b, from, b"PN") {
         Step::Bad { number, offset } => RuleRead::NoRule { number, offset },
-        Step::Next { at } => match fields::read_u8(b, at) {
+        Step::Next { at } => match reading::read_u8(b, at) {
             Field::Cut { number, offset } => RuleRead::NoRule { number, offset },
             Field::Value { value, next: body } => {
                 let node = value as usize;

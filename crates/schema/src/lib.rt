@@ -19,7 +19,7 @@ pub enum Variable {
 fn read_listed(s: &[u8], at: usize) -> Step
     ensures { λ r. ⌜ r ≡ stepOf (listed (now (s .entry)) at) ⌝ }
 {
-    match fields::read_u8(s, at) {
+    match reading::read_u8(s, at) {
         Field::Cut { number, offset } => Step::Bad { number, offset },
         Field::Value { value, next } => {
             if value == 0 {
@@ -42,12 +42,12 @@ fn read_listed(s: &[u8], at: usize) -> Step
 fn read_number(s: &[u8], from: usize) -> Step
     ensures { λ r. ⌜ r ≡ stepOf (number (now (s .entry)) from) ⌝ }
 {
-    match fields::read_i32(s, from) {
+    match reading::read_i32(s, from) {
         SignedField::NoSigned { number, offset } => Step::Bad { number, offset },
         SignedField::Signed {
             value: lo,
             next: at,
-        } => match fields::read_i32(s, at) {
+        } => match reading::read_i32(s, at) {
             SignedField::NoSigned { number, offset } => Step::Bad { number, offset },
             SignedField::Signed { value: hi, next } => {
                 if lo <= hi {
@@ -65,7 +65,7 @@ fn read_number(s: &[u8], from: usize) -> Step
 fn read_variable(s: &[u8], at: usize) -> Step
     ensures { λ r. ⌜ r ≡ stepOf (variable (now (s .entry)) at) ⌝ }
 {
-    match fields::read_u8(s, at) {
+    match reading::read_u8(s, at) {
         Field::Cut { number, offset } => Step::Bad { number, offset },
         Field::Value { value, next } => {
             if value == 0 {
@@ -104,7 +104,7 @@ fn read_variables(s: &[u8], k: u32, from: usize) -> Step
 fn read_variables_of(s: &[u8], at: usize) -> Step
     ensures { λ r. ⌜ r ≡ stepOf (variablesOf (now (s .entry)) at) ⌝ }
 {
-    match fields::read_u8(s, at) {
+    match reading::read_u8(s, at) {
         Field::Cut { number, offset } => Step::Bad { number, offset },
         Field::Value { value, next } => {
             if 4 < value {
@@ -125,7 +125,7 @@ fn read_successors(s: &[u8], count: u32, own: u32, c: u32, from: usize) -> Step
     let mut above = own;
     let mut at = from;
     while 0 < left {
-        match fields::read_u8(s, at) {
+        match reading::read_u8(s, at) {
             Field::Cut { number, offset } => {
                 return Step::Bad { number, offset };
             }
@@ -154,7 +154,7 @@ fn read_successors(s: &[u8], count: u32, own: u32, c: u32, from: usize) -> Step
 fn read_links(s: &[u8], count: u32, own: u32, kind: u32, at: usize) -> Step
     ensures { λ r. ⌜ r ≡ stepOf (links (now (s .entry)) count own kind at) ⌝ }
 {
-    match fields::read_u8(s, at) {
+    match reading::read_u8(s, at) {
         Field::Cut { number, offset } => Step::Bad { number, offset },
         Field::Value { value, next } => {
             if 8 < value {
@@ -180,9 +180,9 @@ fn read_links(s: &[u8], count: u32, own: u32, kind: u32, at: usize) -> Step
 fn read_node(s: &[u8], count: u32, own: u32, from: usize) -> Step
     ensures { λ r. ⌜ r ≡ stepOf (node (now (s .entry)) count own from) ⌝ }
 {
-    match fields::read_mark(s, from, b"SN") {
+    match reading::read_mark(s, from, b"SN") {
         Step::Bad { number, offset } => Step::Bad { number, offset },
-        Step::Next { at } => match fields::read_u8(s, at) {
+        Step::Next { at } => match reading::read_u8(s, at) {
             Field::Cut { number, offset } => Step::Bad { number, offset },
             Field::Value { value, next } => {
                 if 1 < value {
@@ -247,9 +247,9 @@ fn read_body(s: &[u8], count: u32, from: usize) -> Step
 pub fn read_schema(s: &[u8]) -> Step
     ensures { λ r. ⌜ r ≡ stepOf (schema (now (s .entry))) ⌝ }
 {
-    match fields::read_mark(s, 0, b"SH") {
+    match reading::read_mark(s, 0, b"SH") {
         Step::Bad { number, offset } => Step::Bad { number, offset },
-        Step::Next { at } => match fields::read_u8(s, at) {
+        Step::Next { at } => match reading::read_u8(s, at) {
             Field::Cut { number, offset } => Step::Bad { number, offset },
             Field::Value { value, next } => {
                 if value == 0 {

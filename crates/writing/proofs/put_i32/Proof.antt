@@ -1,9 +1,9 @@
 -- The 32 bits of the number are put as an unsigned one.
 -- Rests on the contracts of to_unsigned and put_u32.
 use Rattle.fields.proofs.Bytes.{put-signed}
 use borrow.Author.Needs.{needs}
-use Rattle.fields.proofs.put_i32.Statement.{statement}
-use Rattle.fields.proofs.put_i32.Tie as tie
+use Rattle.writing.proofs.put_i32.Statement.{statement}
+use Rattle.writing.proofs.put_i32.Tie as tie
 
 to-unsigned-requires : tie.Need-to-unsigned-requires
 to-unsigned-requires c κs = search needs

@@ -1,9 +1,9 @@
 -- One store is a run of one byte.
 -- Rests on put1.
 use Rattle.fields.proofs.Bytes.{put1}
 use borrow.Author.Needs.{needs}
-use Rattle.fields.proofs.put_u8.Statement.{statement}
-use Rattle.fields.proofs.put_u8.Tie as tie
+use Rattle.writing.proofs.put_u8.Statement.{statement}
+use Rattle.writing.proofs.put_u8.Tie as tie
 
 slice-write-b : tie.Need-slice-write-b
 slice-write-b c = search needs

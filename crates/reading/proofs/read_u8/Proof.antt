@@ -2,11 +2,11 @@
 -- Rests on value-of and cut-of.
 use native.Mathlib.Omega.{arith}
 use mathlib.Core.Path.{_∙_, sym}
 use Rattle.fields.proofs.Back.{be1}
 use Rattle.fields.proofs.Reading.{value-of, cut-of}
 use borrow.Author.Needs.{needs}
-use Rattle.fields.proofs.read_u8.Statement.{statement}
-use Rattle.fields.proofs.read_u8.Tie as tie
+use Rattle.reading.proofs.read_u8.Statement.{statement}
+use Rattle.reading.proofs.read_u8.Tie as tie
 
 shared-slice-read-wide : tie.Need-shared-slice-read-wide
 shared-slice-read-wide c = search needs

@@ -1,10 +1,10 @@
 -- A mark is a field of two bytes whose rule is that they spell the two letters.
 -- Rests on the laws of reading.
 use Rattle.fields.specs.Reading.{mark}
 use Rattle.fields.proofs.Reading.{reading, mark-yes, mark-no}
 use borrow.Author.Needs.{needs}
-use Rattle.fields.proofs.read_mark.Statement.{statement}
-use Rattle.fields.proofs.read_mark.Tie as tie
+use Rattle.reading.proofs.read_mark.Statement.{statement}
+use Rattle.reading.proofs.read_mark.Tie as tie
 
 read-u16-requires : tie.Need-read-u16-requires
 read-u16-requires c κs = search needs
@@ -15,14 +15,8 @@ enum-known-number c = search needs
 enum-known-value : tie.Need-enum-known-value
 enum-known-value c = search needs
 
-element-copy-out-join2 : tie.Need-element-copy-out-join2
-element-copy-out-join2 c = search needs
-
-element-copy-out-join2-2 : tie.Need-element-copy-out-join2-2
-element-copy-out-join2-2 c = search needs
-
-join2-requires : tie.Need-join2-requires
-join2-requires c κs = search needs
+u16-at-requires : tie.Need-u16-at-requires
+u16-at-requires c κs = search needs
 
 returns : tie.Need-returns
 unfolding mark
@@ -43,9 +37,7 @@ read-mark-spec =
     read-u16-requires
     enum-known-number
     enum-known-value
-    element-copy-out-join2
-    element-copy-out-join2-2
-    join2-requires
+    u16-at-requires
     returns
     returns-2
     returns-3)

@@ -2,10 +2,10 @@
 -- Rests on put-two.
 use lib.ListN.{length-set}
 use native.Mathlib.Omega.{arith}
 use Rattle.fields.proofs.Bytes.{put-two}
 use borrow.Author.Needs.{needs}
-use Rattle.fields.proofs.put_mark.Statement.{statement}
-use Rattle.fields.proofs.put_mark.Tie as tie
+use Rattle.writing.proofs.put_mark.Statement.{statement}
+use Rattle.writing.proofs.put_mark.Tie as tie
 
 element-copy-out-b : tie.Need-element-copy-out-b
 element-copy-out-b c = search needs

@@ -2,10 +2,10 @@
 -- Rests on put2.
 use lib.ListN.{length-set}
 use native.Mathlib.Omega.{arith}
 use Rattle.fields.proofs.Bytes.{put2}
 use borrow.Author.Needs.{needs}
-use Rattle.fields.proofs.put_u16.Statement.{statement}
-use Rattle.fields.proofs.put_u16.Tie as tie
+use Rattle.writing.proofs.put_u16.Statement.{statement}
+use Rattle.writing.proofs.put_u16.Tie as tie
 
 cast-b : tie.Need-cast-b
 cast-b c = search needs
