@@ -33,10 +33,10 @@ fn column_of(schema: &[u8], table: &[usize], n: usize, x: usize) -> usize
     requires { ⌜ NodeIn (now schema) (now table) n ⌝ }
     ensures { λ r. ⌜ AtMost 8 (columnOf x (nodeAt (schemaOf (now (schema .entry))) n .successors)) r ⌝ }
 {
-    let c = schema::successor_count(schema, table, n);
+    let c = nodes::successor_count(schema, table, n);
     let mut j: usize = 0;
     while j < c {
-        if schema::successor_of(schema, table, n, j) == x {
+        if nodes::successor_of(schema, table, n, j) == x {
             return j;
         }
         j += 1;
@@ -172,12 +172,12 @@ fn first_value(
     requires { ⌜ ValuesThere (schemaOf (now schema)) n (now s) from ⌝ }
     ensures { λ r. ⌜ r ≡ forbiddenIn (forbiddenValue (forced a b (policiesOf (schemaOf (now (schema .entry))) (now (p .entry)))) n 0 (nodeAt (schemaOf (now (schema .entry))) n .variables) (valuesIn (values (now (s .entry)) (nodeAt (schemaOf (now (schema .entry))) n .variables) from)) from) ⌝ }
 {
-    let v = schema::variable_count(schema, table, n);
+    let v = nodes::variable_count(schema, table, n);
     let c = conditions_of(schema, table, p, index, list, rows, a, b, n);
     let mut at = from;
     let mut k: usize = 0;
     while k < v {
-        let number = schema::is_number(schema, table, n, k);
+        let number = nodes::is_number(schema, table, n, k);
         if admits(c, k, number, s, at) {
             at += width_of(number);
             k += 1;
@@ -357,7 +357,7 @@ fn check_in(
     requires { ⌜ IndexRoom (now schema) (now index) ⌝ }
     ensures { λ r. ⌜ r ≡ afterSchema (schemaOf (now (schema .entry))) (now (p .entry)) a b (now (s .entry)) ⌝ }
 {
-    schema::fill_table(schema, table);
+    nodes::fill_table(schema, table);
     match policies::read_policies(schema, table, nodes, p, index) {
         PoliciesRead::Refused { number, offset } => Answer {
             number,
@@ -374,7 +374,7 @@ fn check_policies(schema: &[u8], p: &[u8], a: u16, b: u16, s: &[u8]) -> Answer
     requires { ⌜ Accepted (now schema) ⌝ }
     ensures { λ r. ⌜ r ≡ afterSchema (schemaOf (now (schema .entry))) (now (p .entry)) a b (now (s .entry)) ⌝ }
 {
-    let nodes = schema::count_of(schema);
+    let nodes = nodes::count_of(schema);
     if nodes <= 16 {
         let mut table = [0usize; 128];
         let mut index = [0usize; 272];

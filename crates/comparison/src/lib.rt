@@ -22,10 +22,10 @@ fn column_of(schema: &[u8], table: &[usize], n: usize, x: usize) -> usize
     requires { ⌜ NodeIn (now schema) (now table) n ⌝ }
     ensures { λ r. ⌜ r ≡ columnOf x (nodeAt (schemaOf (now (schema .entry))) n .successors) ⌝ }
 {
-    let c = schema::successor_count(schema, table, n);
+    let c = nodes::successor_count(schema, table, n);
     let mut j: usize = 0;
     while j < c {
-        if schema::successor_of(schema, table, n, j) == x {
+        if nodes::successor_of(schema, table, n, j) == x {
             return j;
         }
         j += 1;
@@ -93,10 +93,10 @@ fn all_flagged(schema: &[u8], table: &[usize], n: usize, flags: &[u8; 64]) -> bo
     requires { ⌜ NodeIn (now schema) (now table) n ⌝ }
     ensures { λ r. ⌜ r ≡ every (flagged (now (flags .entry))) (nodeAt (schemaOf (now (schema .entry))) n .successors) ⌝ }
 {
-    let c = schema::successor_count(schema, table, n);
+    let c = nodes::successor_count(schema, table, n);
     let mut j: usize = 0;
     while j < c {
-        let s = schema::successor_of(schema, table, n, j);
+        let s = nodes::successor_of(schema, table, n, j);
         if flags[s] != 1 {
             return false;
         }
@@ -205,7 +205,7 @@ fn as_good(
     let x = instances::choices(schema, table, s);
     let y = instances::choices(schema, table, t);
     let mut flags = [0u8; 64];
-    let mut n = schema::count_of(schema);
+    let mut n = nodes::count_of(schema);
     while 0 < n {
         n -= 1;
         let good = is_good(schema, table, p, index, list, rows, a, b, n, &x, &y, &flags);
@@ -314,7 +314,7 @@ fn compare_in(
     requires { ⌜ IndexRoom (now schema) (now index) ⌝ }
     ensures { λ r. ⌜ r ≡ withSchema (schemaOf (now (schema .entry))) (now (p .entry)) a b (now (s .entry)) (now (t .entry)) ⌝ }
 {
-    schema::fill_table(schema, table);
+    nodes::fill_table(schema, table);
     match policies::read_policies(schema, table, nodes, p, index) {
         PoliciesRead::Refused { number, offset } => Answer {
             number,
@@ -341,7 +341,7 @@ fn compare_policies(schema: &[u8], p: &[u8], a: u16, b: u16, s: &[u8], t: &[u8])
     requires { ⌜ Accepted (now schema) ⌝ }
     ensures { λ r. ⌜ r ≡ withSchema (schemaOf (now (schema .entry))) (now (p .entry)) a b (now (s .entry)) (now (t .entry)) ⌝ }
 {
-    let nodes = schema::count_of(schema);
+    let nodes = nodes::count_of(schema);
     if nodes <= 16 {
         let mut table = [0usize; 128];
         let mut index = [0usize; 272];

@@ -144,14 +144,14 @@ pub fn combine(
     requires { ⌜ Found (now schema) (now p) a b n rows (now places) ⌝ }
     ensures { λ r. ⌜ Combined (now (schema .entry)) (now (p .entry)) a b n r ⌝ }
 {
-    let v = schema::variable_count(schema, table, n);
+    let v = nodes::variable_count(schema, table, n);
     let mut lo = [0i32; 4];
     let mut hi = [0i32; 4];
     let mut mask = [0u32; 4];
     let mut at = policies::rank_count(schema, table, n);
     let mut k: usize = 0;
     while k < v {
-        match schema::variable_of(schema, table, n, k) {
+        match nodes::variable_of(schema, table, n, k) {
             Variable::Number { lo: l, hi: h } => {
                 let x = narrow_range(schema, p, places, rows, a, b, n, k, at, l, h);
                 let least = x.lo;

@@ -38,10 +38,10 @@ fn has_successor(schema: &[u8], table: &[usize], n: usize, x: usize) -> bool
     requires { ⌜ NodeIn (now schema) (now table) n ⌝ }
     ensures { λ r. ⌜ r ≡ elem x (nodeAt (schemaOf (now (schema .entry))) n .successors) ⌝ }
 {
-    let c = schema::successor_count(schema, table, n);
+    let c = nodes::successor_count(schema, table, n);
     let mut j: usize = 0;
     while j < c {
-        if x == schema::successor_of(schema, table, n, j) {
+        if x == nodes::successor_of(schema, table, n, j) {
             return true;
         }
         j += 1;
@@ -54,8 +54,8 @@ pub fn chooses(schema: &[u8], table: &[usize], n: usize) -> bool
     requires { ⌜ NodeIn (now schema) (now table) n ⌝ }
     ensures { λ r. ⌜ r ≡ chooses (nodeAt (schemaOf (now (schema .entry))) n) ⌝ }
 {
-    if schema::kind_of(schema, table, n) == 1 {
-        return 0 < schema::successor_count(schema, table, n);
+    if nodes::kind_of(schema, table, n) == 1 {
+        return 0 < nodes::successor_count(schema, table, n);
     }
     false
 }
@@ -74,11 +74,11 @@ fn with_successors(schema: &[u8], table: &[usize], n: usize, m: u64) -> u64
     requires { ⌜ NodeIn (now schema) (now table) n ⌝ }
     ensures { λ r. ⌜ r ≡ withAll m (nodeAt (schemaOf (now (schema .entry))) n .successors) ⌝ }
 {
-    let c = schema::successor_count(schema, table, n);
+    let c = nodes::successor_count(schema, table, n);
     let mut j: usize = 0;
     let mut r = m;
     while j < c {
-        let x = schema::successor_of(schema, table, n, j);
+        let x = nodes::successor_of(schema, table, n, j);
         r = numbers::with(r, x);
         j += 1;
     }
@@ -149,11 +149,11 @@ fn read_values(schema: &[u8], table: &[usize], n: usize, s: &[u8], from: usize) 
     requires { ⌜ NodeIn (now schema) (now table) n ⌝ }
     ensures { λ r. ⌜ r ≡ stepOf (values (now (s .entry)) (nodeAt (schemaOf (now (schema .entry))) n .variables) from) ⌝ }
 {
-    let count = schema::variable_count(schema, table, n);
+    let count = nodes::variable_count(schema, table, n);
     let mut k: usize = 0;
     let mut at = from;
     while k < count {
-        let v = schema::variable_of(schema, table, n, k);
+        let v = nodes::variable_of(schema, table, n, k);
         match read_value(v, s, at) {
             Step::Bad { number, offset } => {
                 return Step::Bad { number, offset };
@@ -301,11 +301,11 @@ pub fn values_width(schema: &[u8], table: &[usize], n: usize) -> usize
     requires { ⌜ NodeIn (now schema) (now table) n ⌝ }
     ensures { λ r. ⌜ AtMost 16 (valuesWidth (nodeAt (schemaOf (now (schema .entry))) n .variables)) r ⌝ }
 {
-    let count = schema::variable_count(schema, table, n);
+    let count = nodes::variable_count(schema, table, n);
     let mut k: usize = 0;
     let mut r: usize = 0;
     while k < count {
-        let v = schema::variable_of(schema, table, n, k);
+        let v = nodes::variable_of(schema, table, n, k);
         r += value_width(v);
         k += 1;
     }
@@ -359,11 +359,11 @@ fn put_values(
     requires { ⌜ from + 16 ≤ length (now out) ⌝ }
     ensures { λ r. ⌜ Wrote (now (out .entry)) from (encodeValues (nodeAt (schemaOf (now (schema .entry))) n .variables) (valuesFrom (nodeAt (schemaOf (now (schema .entry))) n .variables) (now (bits .entry)) (4 * n))) (now (out .exit)) r ⌝ }
 {
-    let count = schema::variable_count(schema, table, n);
+    let count = nodes::variable_count(schema, table, n);
     let mut k: usize = 0;
     let mut at = from;
     while k < count {
-        let v = schema::variable_of(schema, table, n, k);
+        let v = nodes::variable_of(schema, table, n, k);
         let u = bits[4 * n + k];
         at = put_value(v, u, out, at);
         k += 1;
@@ -410,7 +410,7 @@ fn put_entries(
     requires { ⌜ 1283 ≤ length (now out) ⌝ }
     ensures { λ r. ⌜ WroteEntries (schemaOf (now (schema .entry))) (planned (schemaOf (now (schema .entry))) (planOf (schemaOf (now (schema .entry))) (now (choices .entry)) (now (bits .entry)))) (now (out .entry)) (now (out .exit)) r ⌝ }
 {
-    let nodes = schema::count_of(schema);
+    let nodes = nodes::count_of(schema);
     let mut n: usize = 0;
     let mut reached: u64 = 1;
     let mut at: usize = 3;
@@ -475,7 +475,7 @@ fn copy_instance(schema: &[u8], s: &[u8], out: &mut [u8]) -> Answer
     ensures { λ r. ⌜ Did (copyingUnder (schemaOf (now (schema .entry))) (now (s .entry)) (now (out .entry))) r (now (out .exit)) ⌝ }
 {
     let mut table = [0usize; 320];
-    schema::fill_table(schema, &mut table);
+    nodes::fill_table(schema, &mut table);
     match read_instance(schema, &table, s) {
         Step::Bad { number, offset } => Answer {
             number,

@@ -171,8 +171,8 @@ pub fn rank_count(schema: &[u8], table: &[usize], n: usize) -> usize
     requires { ⌜ NodeIn (now schema) (now table) n ⌝ }
     ensures { λ r. ⌜ AtMost 8 (rankCount (nodeAt (schemaOf (now (schema .entry))) n)) r ⌝ }
 {
-    if schema::kind_of(schema, table, n) == 1 {
-        return schema::successor_count(schema, table, n);
+    if nodes::kind_of(schema, table, n) == 1 {
+        return nodes::successor_count(schema, table, n);
     }
     0
 }
@@ -182,11 +182,11 @@ fn read_conditions(schema: &[u8], table: &[usize], n: usize, b: &[u8], from: usi
     requires { ⌜ NodeIn (now schema) (now table) n ⌝ }
     ensures { λ r. ⌜ r ≡ stepOf (conditions (now (b .entry)) (nodeAt (schemaOf (now (schema .entry))) n .variables) from) ⌝ }
 {
-    let v = schema::variable_count(schema, table, n);
+    let v = nodes::variable_count(schema, table, n);
     let mut k: usize = 0;
     let mut at = from;
     while k < v {
-        let x = schema::variable_of(schema, table, n, k);
+        let x = nodes::variable_of(schema, table, n, k);
         match read_condition(b, x, at) {
             Step::Bad { number, offset } => {
                 return Step::Bad { number, offset };
@@ -221,10 +221,10 @@ fn most_of(schema: &[u8], table: &[usize], n: usize, k: usize) -> usize
     requires { ⌜ k < length (nodeAt (schemaOf (now schema)) n .variables) ⌝ }
     ensures { λ r. ⌜ r ≡ mostOf (variableAt (schemaOf (now (schema .entry))) n k) ⌝ }
 {
-    if schema::is_number(schema, table, n, k) {
+    if nodes::is_number(schema, table, n, k) {
         return 0xffff_ffff;
     }
-    match schema::variable_of(schema, table, n, k) {
+    match nodes::variable_of(schema, table, n, k) {
         Variable::Number { lo: _, hi: _ } => 0xffff_ffff,
         Variable::Listed { size } => {
             if size <= 32 {
@@ -251,14 +251,14 @@ fn lay_out(schema: &[u8], table: &[usize], n: usize, layout: &mut [usize])
     requires { ⌜ Laid (schemaOf (now schema)) n (now layout) ⌝ }
     ensures { λ _. ⌜ Laid (schemaOf (now (schema .entry))) (n + 1) (now (layout .exit)) ⌝ }
 {
-    let v = schema::variable_count(schema, table, n);
+    let v = nodes::variable_count(schema, table, n);
     let mut w = rank_count(schema, table, n);
     let mut f: usize = 0;
     let mut k: usize = 0;
     while k < v {
         let most = most_of(schema, table, n, k);
         put_pair(layout, 64 + 8 * n + 2 * k, w, most);
-        if schema::is_number(schema, table, n, k) {
+        if nodes::is_number(schema, table, n, k) {
             w += 8;
             k += 1;
         } else {

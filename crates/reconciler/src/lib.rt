@@ -71,10 +71,10 @@ fn least_values(
     requires { ⌜ length (now bits) ≡ 256 ⌝ }
     ensures { λ r. ⌜ LeastIn (schemaOf (now (schema .entry))) n c (now (bits .entry)) (now (bits .exit)) r ⌝ }
 {
-    let v = schema::variable_count(schema, table, n);
+    let v = nodes::variable_count(schema, table, n);
     let mut k: usize = 0;
     while k < v {
-        match left_in(c, k, schema::is_number(schema, table, n, k)) {
+        match left_in(c, k, nodes::is_number(schema, table, n, k)) {
             Left::Nothing => {
                 return false;
             }
@@ -184,7 +184,7 @@ fn fill_set(
 {
     let mut k: usize = 0;
     while k < columns {
-        let x = schema::successor_of(schema, table, n, k);
+        let x = nodes::successor_of(schema, table, n, k);
         set[k] = nodes[x];
         k += 1;
     }
@@ -220,10 +220,10 @@ fn all_in(schema: &[u8], table: &[usize], n: usize, nodes: &[u8; 64]) -> bool
     requires { ⌜ NodeIn (now schema) (now table) n ⌝ }
     ensures { λ r. ⌜ r ≡ every (inSet (now (nodes .entry))) (nodeAt (schemaOf (now (schema .entry))) n .successors) ⌝ }
 {
-    let columns = schema::successor_count(schema, table, n);
+    let columns = nodes::successor_count(schema, table, n);
     let mut k: usize = 0;
     while k < columns {
-        let x = schema::successor_of(schema, table, n, k);
+        let x = nodes::successor_of(schema, table, n, k);
         if nodes[x] != 1 {
             return false;
         }
@@ -253,11 +253,11 @@ fn plan_at(
     let c = conditions::combine(schema, table, p, places, rows, a, b, n);
     if least_values(schema, table, n, c, bits) {
         if instances::chooses(schema, table, n) {
-            let columns = schema::successor_count(schema, table, n);
+            let columns = nodes::successor_count(schema, table, n);
             let k = choose(schema, table, p, places, rows, a, b, n, columns, nodes);
             if k < 8 {
                 return Plan::Take {
-                    successor: schema::successor_of(schema, table, n, k),
+                    successor: nodes::successor_of(schema, table, n, k),
                 };
             }
             return Plan::Unmet;
@@ -495,7 +495,7 @@ fn reconcile_in(
     requires { ⌜ IndexRoom (now schema) (now index) ⌝ }
     ensures { λ r. ⌜ Did (underSchema (schemaOf (now (schema .entry))) (now (p .entry)) a b (now (out .entry))) r (now (out .exit)) ⌝ }
 {
-    schema::fill_table(schema, table);
+    nodes::fill_table(schema, table);
     reconcile_read(schema, table, count, p, a, b, index, out)
 }
 
@@ -504,7 +504,7 @@ fn reconcile_under(schema: &[u8], p: &[u8], a: u16, b: u16, out: &mut [u8]) -> A
     requires { ⌜ Accepted (now schema) ⌝ }
     ensures { λ r. ⌜ Did (underSchema (schemaOf (now (schema .entry))) (now (p .entry)) a b (now (out .entry))) r (now (out .exit)) ⌝ }
 {
-    let count = schema::count_of(schema);
+    let count = nodes::count_of(schema);
     if count <= 4 {
         let mut table = [0usize; 80];
         let mut index = [0usize; 80];

@@ -1,9 +1,9 @@
 -- The type is the byte where the variable begins.
 -- Rests on number-yes and number-no.
 use native.Mathlib.Omega.{arith}
 use Rattle.schema.proofs.Access.{node-small, variable-small, variable-inside, number-yes, number-no}
-use Rattle.schema.proofs.is_number.Statement.{statement}
-use Rattle.schema.proofs.is_number.Tie as tie
+use Rattle.nodes.proofs.is_number.Statement.{statement}
+use Rattle.nodes.proofs.is_number.Tie as tie
 
 mul-at : tie.Need-mul-at
 mul-at c = omega (arith, node-small)

@@ -1,10 +1,10 @@
 -- The number of successors is the byte after the kind.
 -- Rests on links-at.
 use native.Mathlib.Omega.{arith}
 use Rattle.schema.proofs.Access.{node-small, node-room, node-inside, links-at}
 use borrow.Author.Needs.{needs}
-use Rattle.schema.proofs.successor_count.Statement.{statement}
-use Rattle.schema.proofs.successor_count.Tie as tie
+use Rattle.nodes.proofs.successor_count.Statement.{statement}
+use Rattle.nodes.proofs.successor_count.Tie as tie
 
 mul-at : tie.Need-mul-at
 mul-at c = omega (arith, node-small)

@@ -1,10 +1,10 @@
 -- Successor j is the byte j after their number.
 -- Rests on link-at.
 use native.Mathlib.Omega.{arith}
 use Rattle.schema.proofs.Access.{node-small, node-room, node-inside, link-at}
 use borrow.Author.Needs.{needs}
-use Rattle.schema.proofs.successor_of.Statement.{statement}
-use Rattle.schema.proofs.successor_of.Tie as tie
+use Rattle.nodes.proofs.successor_of.Statement.{statement}
+use Rattle.nodes.proofs.successor_of.Tie as tie
 
 mul-at : tie.Need-mul-at
 mul-at c = omega (arith, node-small)

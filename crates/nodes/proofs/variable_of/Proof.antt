@@ -1,9 +1,9 @@
 -- The table tells where the variable begins: its type stands there, and after it the bounds or the size.
 -- Rests on number-at and listed-at.
 use native.Mathlib.Omega.{arith}
 use Rattle.schema.proofs.Access.{node-small, variable-small, variable-inside, number-inside, number-at, listed-inside, listed-at}
-use Rattle.schema.proofs.variable_of.Statement.{statement}
-use Rattle.schema.proofs.variable_of.Tie as tie
+use Rattle.nodes.proofs.variable_of.Statement.{statement}
+use Rattle.nodes.proofs.variable_of.Tie as tie
 
 mul-at : tie.Need-mul-at
 mul-at c = omega (arith, node-small)

@@ -2,10 +2,10 @@
 -- Rests on the laws of a turn, in Fill.
 use native.Mathlib.Omega.{arith}
 use Prim.Native.Nat.{_-_}
 use Rattle.schema.proofs.Fill.{Passing, passing-none, passing-inside, passing-links, passing-filling, passing-more, passing-done}
 use borrow.Author.Needs.{needs}
-use Rattle.schema.proofs.fill_table.Statement.{statement}
-use Rattle.schema.proofs.fill_table.Tie as tie
+use Rattle.nodes.proofs.fill_table.Statement.{statement}
+use Rattle.nodes.proofs.fill_table.Tie as tie
 
 abbrev Inv-loop : tie.InvT-loop
 Inv-loop s table₀ count n₀ at₀ table n at = Passing s table₀ n at table

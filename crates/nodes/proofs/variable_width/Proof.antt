@@ -1,9 +1,9 @@
 -- The type decides the width.
 -- Rests on width-zero and width-other.
 use Rattle.schema.proofs.Fill.{width-zero, width-other}
 use borrow.Author.Needs.{needs}
-use Rattle.schema.proofs.variable_width.Statement.{statement}
-use Rattle.schema.proofs.variable_width.Tie as tie
+use Rattle.nodes.proofs.variable_width.Statement.{statement}
+use Rattle.nodes.proofs.variable_width.Tie as tie
 
 shared-slice-read-if1 : tie.Need-shared-slice-read-if1
 shared-slice-read-if1 c = search needs

@@ -2,10 +2,10 @@
 -- Rests on the laws of a turn, in Fill.
 use native.Mathlib.Omega.{arith}
 use Prim.Native.Nat.{_-_}
 use Rattle.schema.proofs.Fill.{Turning, turning-none, turning-inside, turning-under, turning-more, turning-done}
 use borrow.Author.Needs.{needs}
-use Rattle.schema.proofs.fill_variables.Statement.{statement}
-use Rattle.schema.proofs.fill_variables.Tie as tie
+use Rattle.nodes.proofs.fill_variables.Statement.{statement}
+use Rattle.nodes.proofs.fill_variables.Tie as tie
 
 abbrev Inv-loop : tie.InvT-loop
 Inv-loop s n v from table₀ k₀ at₀ table k at = Turning s n v from table₀ k at table

@@ -1,10 +1,10 @@
 -- The count is the byte at offset 2.
 -- Rests on count-at.
 use native.Mathlib.Omega.{arith}
 use Rattle.schema.proofs.Access.{count-inside, count-at}
 use borrow.Author.Needs.{needs}
-use Rattle.schema.proofs.count_of.Statement.{statement}
-use Rattle.schema.proofs.count_of.Tie as tie
+use Rattle.nodes.proofs.count_of.Statement.{statement}
+use Rattle.nodes.proofs.count_of.Tie as tie
 
 shared-slice-read-wide : tie.Need-shared-slice-read-wide
 shared-slice-read-wide c = omega (arith, count-inside)

@@ -1,10 +1,10 @@
 -- The number of variables is the byte after the successors.
 -- Rests on variables-count.
 use native.Mathlib.Omega.{arith}
 use Rattle.schema.proofs.Access.{node-small, node-room, node-inside, linked-inside, variables-count}
 use borrow.Author.Needs.{needs}
-use Rattle.schema.proofs.variable_count.Statement.{statement}
-use Rattle.schema.proofs.variable_count.Tie as tie
+use Rattle.nodes.proofs.variable_count.Statement.{statement}
+use Rattle.nodes.proofs.variable_count.Tie as tie
 
 mul-at : tie.Need-mul-at
 mul-at c = omega (arith, node-small)

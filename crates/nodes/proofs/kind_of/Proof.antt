@@ -1,9 +1,9 @@
 -- The kind is the byte after the mark of the record that the table tells.
 -- Rests on kind-at.
 use native.Mathlib.Omega.{arith}
 use Rattle.schema.proofs.Access.{node-small, node-room, node-inside, kind-at}
-use Rattle.schema.proofs.kind_of.Statement.{statement}
-use Rattle.schema.proofs.kind_of.Tie as tie
+use Rattle.nodes.proofs.kind_of.Statement.{statement}
+use Rattle.nodes.proofs.kind_of.Tie as tie
 
 mul-at : tie.Need-mul-at
 mul-at c = omega (arith, node-small)
