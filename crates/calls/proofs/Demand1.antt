@@ -22,7 +22,7 @@ use Rattle.policies.specs.Pass.{pass, forced}
 use Rattle.policies.proofs.Within.{refusal-number}
 use Rattle.instances.specs.Instance.{Entry}
 use Rattle.instances.specs.File.{instance, encode}
-use Rattle.instances.specs.Copying.{copyingUnder, copying}
+use Rattle.copying.specs.Copying.{copyingUnder, copying}
 use Rattle.instances.proofs.Refusals as of-instance
 use Rattle.model.specs.Reconciling.{reconciled}
 use Rattle.model.specs.Comparing.{forbidden}

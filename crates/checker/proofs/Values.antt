@@ -26,7 +26,7 @@ use Rattle.policies.specs.Policies.{Condition, mask, Policy, policiesOf}
 use Rattle.policies.specs.Pass.{forced}
 use Rattle.instances.specs.Instance.{inDomain}
 use Rattle.instances.specs.File.{valueWidth, valueOf, value, values}
-use Rattle.instances.proofs.Reader.{vars-more}
+use Rattle.instances.proofs.Node.{vars-more}
 use Rattle.model.specs.Satisfaction.{admits, admitted}
 use Rattle.model.specs.Reconciling.{own, restrictAll, combined}
 use Rattle.model.specs.Comparing.{forbiddenValue}

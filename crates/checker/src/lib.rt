@@ -11,7 +11,7 @@ ghost use Rattle.policies.specs.Pass.{forced};
 ghost use Rattle.policies.specs.Index.{IndexIn, Indexed, RankIn, IndexRoom};
 ghost use Rattle.instances.specs.Instance.{rightChoice};
 ghost use Rattle.instances.specs.File.{values};
-ghost use Rattle.instances.specs.Lookup.{instanceOf, Readable};
+ghost use Rattle.lookup.specs.Lookup.{instanceOf, Readable};
 ghost use Rattle.model.specs.Satisfaction.{columnOf, choiceMeets};
 ghost use Rattle.model.specs.Comparing.{forbiddenValue, forbiddenEntry, forbidden};
 ghost use Rattle.calls.specs.Calls.{permitted, checking};
@@ -243,7 +243,7 @@ fn first_forbidden(
             }
             Forbidden::Nowhere => {
                 let n = s[at + 2] as usize;
-                at = at + 4 + instances::values_width(schema, table, n);
+                at = at + 4 + lookup::values_width(schema, table, n);
                 left -= 1;
             }
         }
@@ -302,7 +302,7 @@ fn check_instance(
     requires { ⌜ Indexed (now schema) (now p) (now index) count ⌝ }
     ensures { λ r. ⌜ r ≡ afterPass (schemaOf (now (schema .entry))) (policiesOf (schemaOf (now (schema .entry))) (now (p .entry))) a b (now (s .entry)) ⌝ }
 {
-    match instances::read_instance(schema, table, s) {
+    match instance_reader::read_instance(schema, table, s) {
         Step::Bad { number, offset } => Answer {
             number,
             file: 4,

@@ -17,7 +17,7 @@ use Rattle.policies.specs.Policies.{Rule, Policy, rankCount, policiesOf, noPoli
 use Rattle.policies.specs.Pass.{forced}
 use Rattle.policies.specs.Index.{PolicyIn, RankIn, policyOf}
 use Rattle.policies.proofs.Sound.{stood, Says, silent, speaks, says}
-use Rattle.instances.proofs.Reader.{links, links-more, links-none}
+use Rattle.instances.proofs.Node.{links, links-more, links-none}
 use Rattle.model.specs.Satisfaction.{columnOf, rank}
 use Rattle.model.specs.Order.{betterBy, better}
 use Rattle.comparison.specs.Comparison.{Ranking}

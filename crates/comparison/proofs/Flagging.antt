@@ -17,9 +17,9 @@ use Rattle.schema.proofs.Accepted.{sound}
 use Rattle.policies.specs.Policies.{Policy, policiesOf}
 use Rattle.policies.specs.Pass.{forced}
 use Rattle.instances.specs.Instance.{Entry}
-use Rattle.instances.specs.Lookup.{instanceOf, Readable, choicesOf}
+use Rattle.lookup.specs.Lookup.{instanceOf, Readable, choicesOf}
 use Rattle.instances.proofs.IsInstance.{Reached, root, Ascending, IsInstance}
-use Rattle.instances.proofs.Lookup.{choice-at, choice-none}
+use Rattle.lookup.proofs.Lookup.{choice-at, choice-none}
 use Rattle.instances.proofs.RoundTrip.{read-is, reached-below}
 use Rattle.model.specs.Order.{choiceOf, choiceAt, better, goodStep, good, asGood}
 use Rattle.model.proofs.Entries.{Found, found, missing, lookup}

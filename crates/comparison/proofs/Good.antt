@@ -14,7 +14,7 @@ use Rattle.schema.specs.Table.{AtMost, SuccessorIs}
 use Rattle.policies.specs.Policies.{Policy}
 use Rattle.policies.proofs.Nodes.{nodes-few}
 use Rattle.instances.specs.Instance.{chooses}
-use Rattle.instances.proofs.Reader.{links, links-more, links-none}
+use Rattle.instances.proofs.Node.{links, links-more, links-none}
 use Rattle.model.specs.Satisfaction.{every}
 use Rattle.model.specs.Order.{better}
 use Rattle.model.proofs.Ranks.{better-strict}

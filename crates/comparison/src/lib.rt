@@ -7,7 +7,7 @@ ghost use Rattle.schema.specs.Table.{Tabled, Accepted, NodeIn, AtMost, Room};
 ghost use Rattle.policies.specs.Policies.{policiesOf, rankOf};
 ghost use Rattle.policies.specs.Pass.{forced};
 ghost use Rattle.policies.specs.Index.{PolicyIn, Indexed, IndexRoom, policyOf};
-ghost use Rattle.instances.specs.Lookup.{instanceOf, Readable};
+ghost use Rattle.lookup.specs.Lookup.{instanceOf, Readable};
 ghost use Rattle.model.specs.Satisfaction.{columnOf, every};
 ghost use Rattle.model.specs.Order.{better, asGood};
 ghost use Rattle.model.specs.Comparing.{verdict, compared};
@@ -202,8 +202,8 @@ fn as_good(
     requires { ⌜ Readable (schemaOf (now schema)) (now t) ⌝ }
     ensures { λ r. ⌜ r ≡ asGood (schemaOf (now (schema .entry))) (forced a b (policiesOf (schemaOf (now (schema .entry))) (now (p .entry)))) (instanceOf (schemaOf (now (schema .entry))) (now (s .entry))) (instanceOf (schemaOf (now (schema .entry))) (now (t .entry))) ⌝ }
 {
-    let x = instances::choices(schema, table, s);
-    let y = instances::choices(schema, table, t);
+    let x = lookup::choices(schema, table, s);
+    let y = lookup::choices(schema, table, t);
     let mut flags = [0u8; 64];
     let mut n = nodes::count_of(schema);
     while 0 < n {
@@ -272,14 +272,14 @@ fn compare_instances(
     requires { ⌜ Indexed (now schema) (now p) (now index) count ⌝ }
     ensures { λ r. ⌜ r ≡ withPolicies (schemaOf (now (schema .entry))) (forced a b (policiesOf (schemaOf (now (schema .entry))) (now (p .entry)))) (now (s .entry)) (now (t .entry)) ⌝ }
 {
-    match instances::read_instance(schema, table, s) {
+    match instance_reader::read_instance(schema, table, s) {
         Step::Bad { number, offset } => Answer {
             number,
             file: 4,
             offset,
             value: 0,
         },
-        Step::Next { at: _ } => match instances::read_instance(schema, table, t) {
+        Step::Next { at: _ } => match instance_reader::read_instance(schema, table, t) {
             Step::Bad { number, offset } => Answer {
                 number,
                 file: 5,

@@ -1,6 +1,6 @@
 // The calls for C and Rust: a slice passes as a pointer and a length.
 ghost use mathlib.Core.Path.{_≡_};
-ghost use Rattle.instances.specs.Copying.{copying};
+ghost use Rattle.copying.specs.Copying.{copying};
 ghost use Rattle.calls.specs.Calls.{reconciling, checking, comparing};
 ghost use Rattle.exports.specs.Call.{Called};
 ghost use Rattle.exports.specs.Exported.{exported};
@@ -30,7 +30,7 @@ fn export(r: Answer) -> Exported
 pub extern "C" fn neulenta_copy(schema: &[u8], instance: &[u8], out: &mut [u8]) -> Exported
     ensures { λ r. ⌜ Called (copying (now (schema .entry)) (now (instance .entry)) (now (out .entry))) r (now (out .exit)) ⌝ }
 {
-    export(instances::copy(schema, instance, out))
+    export(copying::copy(schema, instance, out))
 }
 
 #[no_mangle]

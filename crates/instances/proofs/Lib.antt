@@ -5,8 +5,4 @@ pub mod Planned
 pub mod Trip
 pub mod RoundTrip
 pub mod Refusals
-pub mod Due
-pub mod Reader
-pub mod Lookup
-pub mod Writer
-pub mod Copying
+pub mod Node

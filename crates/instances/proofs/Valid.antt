@@ -90,6 +90,20 @@ unfolding noneBelow
 at-none f zero h = refl
 at-none f (suc k) h = rw (not-not (f k) (h k (omega arith))) (at-none f k (λ n l. h n (omega arith)))
 
+-- ---- a list of nodes
+
+pub mem-elem : {x : ℕ} {l : List ℕ} → List·Memᴰ x l → elem x l ≡ true
+mem-elem {x} (List·Memᴰ·head {x = y} {xs = ys} e) = or-left (eqb x y) (elem x ys) (eq-eqb x y e)
+mem-elem {x} (List·Memᴰ·tail {x = y} {xs = ys} m) = or-right (eqb x y) (elem x ys) (mem-elem m)
+
+pub elem-mem : (x : ℕ) (l : List ℕ) → elem x l ≡ true → List·Memᴰ x l
+elem-mem x [] t = never t
+elem-mem x (y ∷ ys) t = go (elem-mem x ys) (or-true (eqb x y) (elem x ys) t)
+  where
+    go : (elem x ys ≡ true → List·Memᴰ x ys) → (eqb x y ≡ true) ⊎ (elem x ys ≡ true) → List·Memᴰ x (y ∷ ys)
+    go ih (inl e) = List·Memᴰ·head (eqb-true x y e)
+    go ih (inr e) = List·Memᴰ·tail (ih e)
+
 -- ---- entries and their nodes
 
 pub mem-has : {e : Entry} {es : List Entry} → List·Memᴰ e es → has es (e .node) ≡ true

@@ -11,7 +11,7 @@ use lib.Dec.{eqb}
 use lib.ListN.{length, getD}
 use Rattle.fields.proofs.Tests.{and-yes, and-true, or-true, or-left, or-right, never}
 use Rattle.instances.specs.Instance.{elem}
-use Rattle.instances.proofs.Due.{elem-mem}
+use Rattle.instances.proofs.Valid.{elem-mem}
 use Rattle.model.specs.Satisfaction.{every}
 
 -- ---- every one of a list passes

@@ -33,7 +33,7 @@ use Rattle.policies.specs.declared.PoliciesRead.the-variants.{Policies, Refused
 use Rattle.instances.specs.Instance.{Entry}
 use Rattle.instances.specs.File.{encode}
 use Rattle.instances.specs.Plan.{planned, planOf}
-use Rattle.instances.proofs.Writer.{written-most, written-is}
+use Rattle.writer.proofs.Writer.{written-most, written-is}
 use Rattle.model.specs.Reconciling.{can, plan, reconcile, reconciled}
 use Rattle.model.proofs.Reconciler.{answer-by-plan}
 use Rattle.model.proofs.Right.{lawful}

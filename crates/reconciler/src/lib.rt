@@ -346,8 +346,8 @@ fn write_short(
     requires { ⌜ 1283 ≤ length (now file) ⌝ }
     ensures { λ r. ⌜ Did (placed (encode (schemaOf (now (schema .entry))) (planned (schemaOf (now (schema .entry))) (planOf (schemaOf (now (schema .entry))) (now (choices .entry)) (now (bits .entry))))) (now (out .entry))) r (now (out .exit)) ⌝ }
 {
-    let n = instances::write_planned(schema, table, choices, bits, file);
-    instances::place(file, n, out)
+    let n = writer::write_planned(schema, table, choices, bits, file);
+    copying::place(file, n, out)
 }
 
 // The file of the plan that the tables hold, placed in the buffer: at once, where that is long enough for any.
@@ -367,7 +367,7 @@ fn write_plan(
             number: 0,
             file: 0,
             offset: 0,
-            value: instances::write_planned(schema, table, choices, bits, out),
+            value: writer::write_planned(schema, table, choices, bits, out),
         };
     }
     let mut file = [0u8; 1283];

@@ -1,6 +1,6 @@
 -- The instance file is judged, then what it holds.
 -- Rests on the ruleset answering.
-use Rattle.instances.proofs.Lookup.{readable-by}
+use Rattle.lookup.proofs.Lookup.{readable-by}
 use Rattle.checker.proofs.Answers.{answering}
 use borrow.Author.Needs.{needs}
 use Rattle.checker.proofs.check_instance.Statement.{statement}

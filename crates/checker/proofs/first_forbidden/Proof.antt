@@ -3,7 +3,7 @@
 use Rattle.schema.specs.Schema.{schemaOf}
 use Rattle.policies.specs.Policies.{policiesOf}
 use Rattle.policies.specs.Pass.{forced}
-use Rattle.instances.specs.Lookup.{instanceOf}
+use Rattle.lookup.specs.Lookup.{instanceOf}
 use Rattle.model.specs.Comparing.{forbidden}
 use Rattle.checker.specs.Checks.{forbiddenIn}
 use Rattle.checker.proofs.Entries.{Walking, walking-none, walking-inside, walking-entry, walking-near, walking-fits, walking-node-in, walking-node, walking-no, walking-on, walking-done, byte-wide}

@@ -1,7 +1,7 @@
 -- File 4, then file 5, then the verdict.
 -- Rests on the ruleset calling.
 use borrow.Author.Needs.{needs}
-use Rattle.instances.proofs.Lookup.{readable-by}
+use Rattle.lookup.proofs.Lookup.{readable-by}
 use Rattle.comparison.proofs.Call.{calling}
 use Rattle.comparison.proofs.compare_instances.Statement.{statement}
 use Rattle.comparison.proofs.compare_instances.Tie as tie

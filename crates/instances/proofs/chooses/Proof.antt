@@ -1,7 +1,7 @@
 -- Each return is one case of the kind.
 -- Rests on what the schema's accessors answer.
 use borrow.Author.Needs.{needs}
-use Rattle.instances.proofs.Reader.{chooses-by, chooses-not}
+use Rattle.instances.proofs.Node.{chooses-by, chooses-not}
 use Rattle.instances.proofs.chooses.Statement.{statement}
 use Rattle.instances.proofs.chooses.Tie as tie
 

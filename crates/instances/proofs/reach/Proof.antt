@@ -1,7 +1,7 @@
 -- Each return is one case of the kind.
 -- Rests on the definition of `reaches`.
 use borrow.Author.Needs.{needs}
-use Rattle.instances.proofs.Reader.{reach-one, reach-all}
+use Rattle.instances.proofs.Node.{reach-one, reach-all}
 use Rattle.instances.proofs.reach.Statement.{statement}
 use Rattle.instances.proofs.reach.Tie as tie
 

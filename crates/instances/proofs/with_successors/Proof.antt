@@ -6,7 +6,7 @@ use Prim.Native.Nat.{_-_}
 use lib.ListN.{drop}
 use Rattle.numbers.specs.Bits.{withAll}
 use Rattle.schema.specs.Schema.{schemaOf, nodeAt}
-use Rattle.instances.proofs.Reader.{with-more, with-done}
+use Rattle.instances.proofs.Node.{with-more, with-done}
 use Rattle.instances.proofs.with_successors.Statement.{statement}
 use Rattle.instances.proofs.with_successors.Tie as tie
 

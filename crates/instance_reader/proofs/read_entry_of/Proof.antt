@@ -1,0 +1,67 @@
+-- Each return is one way that the choice or the values can end.
+-- Rests on the ruleset of-entry.
+use borrow.Author.Needs.{needs}
+use Rattle.instance_reader.proofs.Reader.{of-entry}
+use Rattle.instance_reader.proofs.read_entry_of.Statement.{statement}
+use Rattle.instance_reader.proofs.read_entry_of.Tie as tie
+
+read-u8-requires : tie.Need-read-u8-requires
+read-u8-requires c κs = search needs
+
+enum-known-number : tie.Need-enum-known-number
+enum-known-number c = search needs
+
+enum-known-value : tie.Need-enum-known-value
+enum-known-value c = search needs
+
+cast-c : tie.Need-cast-c
+cast-c c = search needs
+
+right-choice-requires : tie.Need-right-choice-requires
+right-choice-requires c κs = search needs
+
+read-values-requires : tie.Need-read-values-requires
+read-values-requires c κs = search needs
+
+enum-known-number-2 : tie.Need-enum-known-number-2
+enum-known-number-2 c = search needs
+
+enum-known-at : tie.Need-enum-known-at
+enum-known-at c = search needs
+
+turned-bit-requires : tie.Need-turned-bit-requires
+turned-bit-requires c κs = search needs
+
+reach-requires : tie.Need-reach-requires
+reach-requires c κs = search needs
+
+returns : tie.Need-returns
+returns c = search of-entry
+
+returns-2 : tie.Need-returns-2
+returns-2 c = search of-entry
+
+returns-3 : tie.Need-returns-3
+returns-3 c = search of-entry
+
+returns-4 : tie.Need-returns-4
+returns-4 c = search of-entry
+
+pub read-entry-of-spec : {M : Type 1} → statement M
+read-entry-of-spec =
+    tie.close
+    (tie.spec
+    read-u8-requires
+    enum-known-number
+    enum-known-value
+    cast-c
+    right-choice-requires
+    read-values-requires
+    enum-known-number-2
+    enum-known-at
+    turned-bit-requires
+    reach-requires
+    returns
+    returns-2
+    returns-3
+    returns-4)

@@ -1,0 +1,51 @@
+// What an accepted instance file says.
+ghost use mathlib.Core.Path.{_≡_};
+ghost use Rattle.schema.specs.Schema.{schemaOf, nodeAt};
+ghost use Rattle.schema.specs.Table.{Tabled, Accepted, NodeIn, AtMost};
+ghost use Rattle.instances.specs.File.{valueWidth};
+ghost use Rattle.lookup.specs.Lookup.{instanceOf, Readable, valuesWidth, choicesOf};
+use schema::Variable;
+
+fn value_width(v: Variable) -> usize
+    ensures { λ r. ⌜ r ≡ valueWidth v ⌝ }
+{
+    match v {
+        Variable::Number { lo: _, hi: _ } => 4,
+        Variable::Listed { size: _ } => 1,
+    }
+}
+
+// How many bytes node n's values have in an instance file.
+pub fn values_width(schema: &[u8], table: &[usize], n: usize) -> usize
+    requires { ⌜ NodeIn (now schema) (now table) n ⌝ }
+    ensures { λ r. ⌜ AtMost 16 (valuesWidth (nodeAt (schemaOf (now (schema .entry))) n .variables)) r ⌝ }
+{
+    let count = nodes::variable_count(schema, table, n);
+    let mut k: usize = 0;
+    let mut r: usize = 0;
+    while k < count {
+        let v = nodes::variable_of(schema, table, n, k);
+        r += value_width(v);
+        k += 1;
+    }
+    r
+}
+
+// The choices of an accepted instance by node, 255 where a node has no entry.
+pub fn choices(schema: &[u8], table: &[usize], s: &[u8]) -> [u8; 64]
+    requires { ⌜ Accepted (now schema) ⌝ }
+    requires { ⌜ Tabled (now schema) (now table) ⌝ }
+    requires { ⌜ Readable (schemaOf (now schema)) (now s) ⌝ }
+    ensures { λ r. ⌜ r ≡ choicesOf (instanceOf (schemaOf (now (schema .entry))) (now (s .entry))) ⌝ }
+{
+    let mut found = [255u8; 64];
+    let mut left = s[2];
+    let mut at: usize = 3;
+    while 0 < left {
+        let n = s[at + 2] as usize;
+        found[n] = s[at + 3];
+        at = at + 4 + values_width(schema, table, n);
+        left -= 1;
+    }
+    found
+}

@@ -1,0 +1,25 @@
+-- The entries from byte 3 on, then the head before them.
+-- Rests on the laws of `put`.
+use borrow.Author.Needs.{needs}
+use Rattle.writer.proofs.Writer.{file-wrote}
+use Rattle.writer.proofs.write_planned.Statement.{statement}
+use Rattle.writer.proofs.write_planned.Tie as tie
+
+put-entries-requires : tie.Need-put-entries-requires
+put-entries-requires c κs = search needs
+
+put-mark-requires : tie.Need-put-mark-requires
+put-mark-requires c κs = search needs
+
+put-u8-requires : tie.Need-put-u8-requires
+put-u8-requires c κs = search needs
+
+same-length : tie.Need-same-length
+same-length c = search needs
+
+returns : tie.Need-returns
+returns c = search file-wrote
+
+pub write-planned-spec : {M : Type 1} → statement M
+write-planned-spec =
+    tie.close (tie.spec put-entries-requires put-mark-requires put-u8-requires same-length returns)
