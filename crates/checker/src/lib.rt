@@ -20,7 +20,7 @@ ghost use Rattle.checker.specs.Checks.{forbiddenIn, allowedColumn, choos
 use conditions::Conditions;
 use fields::Answer;
 use fields::Step;
-use policies::PoliciesRead;
+use policy_reader::PoliciesRead;
 
 // The offset of the first field that is forbidden, if there is one.
 enum Forbidden {
@@ -358,7 +358,7 @@ fn check_in(
     ensures { λ r. ⌜ r ≡ afterSchema (schemaOf (now (schema .entry))) (now (p .entry)) a b (now (s .entry)) ⌝ }
 {
     nodes::fill_table(schema, table);
-    match policies::read_policies(schema, table, nodes, p, index) {
+    match policy_reader::read_policies(schema, table, nodes, p, index) {
         PoliciesRead::Refused { number, offset } => Answer {
             number,
             file: 2,

@@ -14,10 +14,10 @@ use Rattle.schema.proofs.Accepted.{schema-got}
 use Rattle.policies.specs.Policies.{Policy, policiesOf}
 use Rattle.policies.specs.Pass.{pass, forced, positions, Listing}
 use Rattle.policies.specs.Index.{Indexed}
-use Rattle.policies.specs.Answers.{Told}
-use Rattle.policies.specs.declared.PoliciesRead.{PoliciesRead}
-use Rattle.policies.specs.declared.PoliciesRead.the-variants.{Policies, Refused}
-use Rattle.policies.proofs.Above.{accepted-policies, refused-policies}
+use Rattle.policy_reader.specs.Answers.{Told}
+use Rattle.policy_reader.specs.declared.PoliciesRead.{PoliciesRead}
+use Rattle.policy_reader.specs.declared.PoliciesRead.the-variants.{Policies, Refused}
+use Rattle.policy_reader.proofs.Above.{accepted-policies, refused-policies}
 use Rattle.instances.specs.File.{instance}
 use Rattle.lookup.specs.Lookup.{instanceOf}
 use Rattle.lookup.proofs.Lookup.{readable-by}

@@ -15,7 +15,7 @@ ghost use Rattle.calls.specs.Calls.{comparing};
 ghost use Rattle.comparison.specs.Comparison.{Ranking, flagged, byChoice, byNode, withSchema, withPolicies};
 use fields::Answer;
 use fields::Step;
-use policies::PoliciesRead;
+use policy_reader::PoliciesRead;
 
 // The place of x among node n's successors, their number where it is none of them.
 fn column_of(schema: &[u8], table: &[usize], n: usize, x: usize) -> usize
@@ -315,7 +315,7 @@ fn compare_in(
     ensures { λ r. ⌜ r ≡ withSchema (schemaOf (now (schema .entry))) (now (p .entry)) a b (now (s .entry)) (now (t .entry)) ⌝ }
 {
     nodes::fill_table(schema, table);
-    match policies::read_policies(schema, table, nodes, p, index) {
+    match policy_reader::read_policies(schema, table, nodes, p, index) {
         PoliciesRead::Refused { number, offset } => Answer {
             number,
             file: 2,

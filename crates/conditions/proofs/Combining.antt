@@ -24,8 +24,8 @@ use Rattle.schema.proofs.Sound.{SoundVariable, SoundVariables}
 use Rattle.schema.proofs.Access.{here}
 use Rattle.policies.specs.Policies.{range, mask, Policy, rankCount, policiesOf}
 use Rattle.policies.specs.Pass.{forced}
-use Rattle.policies.specs.Body.{span, spans, offsetOf}
-use Rattle.policies.proofs.Laying.{spans-next}
+use Rattle.policies.specs.Index.{span, spans, offsetOf}
+use Rattle.policies.proofs.Nodes.{spans-next}
 use Rattle.model.specs.Reconciling.{own, restrictAll, combined}
 use Rattle.conditions.specs.Held.{conditionIn, Combined}
 use Rattle.conditions.specs.Places.{ConditionIn}

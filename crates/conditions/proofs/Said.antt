@@ -19,8 +19,7 @@ use Rattle.schema.specs.Schema.{Node, schemaOf, nodeAt, noVariable, isNumber}
 use Rattle.schema.specs.declared.Variable.{Variable}
 use Rattle.schema.specs.declared.Variable.the-variants.{Number, Listed}
 use Rattle.policies.specs.Policies.{Condition, range, mask, Rule, Policy, condition, conditions, conditionsOf, ruleFor, noRule, rankCount, rankOf}
-use Rattle.policies.specs.Index.{conditionWidth, PolicyIn, policyOf}
-use Rattle.policies.specs.Body.{span, spans, offsetOf}
+use Rattle.policies.specs.Index.{conditionWidth, PolicyIn, policyOf, span, spans, offsetOf}
 use Rattle.policies.proofs.Stands.{ConditionAt, ConditionsAt, none, more, conditions-back}
 use Rattle.policies.proofs.Nodes.{nodes-few}
 use Rattle.policies.proofs.Places.{Place, absent, present, row, head-in, rest}

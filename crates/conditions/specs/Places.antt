@@ -8,7 +8,7 @@ use Rattle.fields.specs.Reading.{got}
 use Rattle.schema.specs.Schema.{Node, schemaOf, nodeAt, noVariable, isNumber}
 use Rattle.policies.specs.Policies.{Policy, conditions, rankCount, ruleFor, noRule, rankOf, conditionsOf, policiesOf, policyAt}
 use Rattle.policies.specs.Pass.{forced}
-use Rattle.policies.specs.Body.{offsetOf}
+use Rattle.policies.specs.Index.{offsetOf}
 
 -- policy q speaks of node n from place p of the file s on, the ranks first; at 0 is a mark: there it says nothing
 pub record SaidAt (g : List Node) (s : List ℕ) (q : Policy) (n p : ℕ) : Type 0 where

@@ -1,6 +1,6 @@
--- What the crates above have of the reader's answers: the index belongs to the policies, a refusal to the file.
--- Rests on what the contracts tell, and on Pass for the list of the policies in force.
-use mathlib.Core.Path.{_≡_, refl, ap, sym, _∙_}
+-- What the crates above have of the index, of the list of the policies in force, and of the pass.
+-- Rests on what the contracts tell, and on Pass for the list.
+use mathlib.Core.Path.{_≡_, ap, sym, _∙_}
 use mathlib.Core.Bool.{_&&_}
 use mathlib.Core.List.{List}
 use Prim.Native.Nat.{ℕ, _+_, _*_, _≤_, _<_}
@@ -8,22 +8,19 @@ use native.Mathlib.Omega.{arith}
 use borrow.Author.Tests.{leb-true}
 use lib.ListN.{length, getD, drop, replicate, length-replicate, List·getD-append}
 use lib.Dec.{leb}
-use Rattle.fields.specs.Reading.{Got, got, bad}
+use Rattle.fields.specs.Reading.{got}
 use Rattle.fields.specs.Writing.{put}
 use Rattle.fields.proofs.Back.{chosen}
 use Rattle.fields.proofs.Tests.{and-true}
 use Rattle.schema.specs.Schema.{schemaOf}
 use Rattle.schema.specs.Table.{AtMost}
-use Rattle.policies.specs.Policies.{Policy, policies, policiesIn, policiesOf, policyAt}
+use Rattle.policies.specs.Policies.{policiesOf, policyAt}
 use Rattle.policies.specs.Pass.{pass, forced, positions, Listing}
 use Rattle.policies.specs.Index.{Indexed, PolicyIn, IndexRoom, policyOf}
-use Rattle.policies.specs.Answers.{policiesRead, Told}
-use Rattle.policies.specs.declared.PoliciesRead.{PoliciesRead}
-use Rattle.policies.specs.declared.PoliciesRead.the-variants.{Policies, Refused}
 use Rattle.policies.proofs.Nodes.{nodes-few}
 use Rattle.policies.proofs.Pass.{positions-of, lists-at}
 
--- ---- the file
+-- ---- the index
 
 -- room for the index: zeros, enough of them for the nodes
 index-room : (schema : List ℕ) (m : ℕ) → 16 + 16 * length (schemaOf schema) ≤ m → IndexRoom schema (replicate m 0)
@@ -39,26 +36,6 @@ index-4 schema e h = index-room schema 80 (omega (arith, e .is))
 
 pub index-16 : (schema : List ℕ) {count : ℕ} → AtMost 64 (length (schemaOf schema)) count → count ≤ 16 → IndexRoom schema (replicate 272 0)
 index-16 schema e h = index-room schema 272 (omega (arith, e .is))
-
-read-count : (r : Got (List Policy)) {n : ℕ} → Policies n ≡ policiesRead r → (q : ℕ) × (r ≡ got (policiesIn r) q) × (n ≡ length (policiesIn r))
-read-count (got ps q) e = (q, refl, (cc))
-read-count (bad m o) e = absurd (let z : _≡_ {A = ℕ} 0 1 = cc in omega arith)
-
-read-refused : (r : Got (List Policy)) {m o : ℕ} → Refused m o ≡ policiesRead r → r ≡ bad m o
-read-refused (got ps q) e = absurd (let z : _≡_ {A = ℕ} 0 1 = cc in omega arith)
-read-refused (bad m o) e = cc
-
-module _ (schema p t : List ℕ) {f : PoliciesRead} (w : Told schema p f t) where
-  pub accepted-policies : {n : ℕ} → f ≡ Policies n → (q : ℕ) × (policies (schemaOf schema) p ≡ got (policiesOf (schemaOf schema) p) q)
-  unfolding policiesOf
-  accepted-policies e = let r = read-count (policies (schemaOf schema) p) (sym e ∙ w .answer) in (r .0, r .1)
-
-  pub indexed : {n : ℕ} → f ≡ Policies n → Indexed schema p t n
-  unfolding policiesOf
-  indexed e = record { index = w .index; counted = read-count (policies (schemaOf schema) p) (sym e ∙ w .answer) .2 }
-
-  pub refused-policies : {m o : ℕ} → f ≡ Refused m o → policies (schemaOf schema) p ≡ bad m o
-  refused-policies e = read-refused (policies (schemaOf schema) p) (sym e ∙ w .answer)
 
 -- ---- the policies in force
 

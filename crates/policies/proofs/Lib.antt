@@ -4,10 +4,5 @@ pub mod Index
 pub mod Nodes
 pub mod Places
 pub mod Within
-pub mod Rules
-pub mod File
-pub mod Body
-pub mod Laying
 pub mod Pass
-pub mod Reader
 pub mod Above

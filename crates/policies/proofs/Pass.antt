@@ -1,29 +1,28 @@
 -- The pass and the policies in force: each outcome of the code's tests as one of the definitions.
--- Rests on the library's laws of `leb` alone.
+-- Rests on the library's laws of `leb`, and on Places for what stands where the index says.
 use mathlib.Core.Path.{_≡_, refl, ap, sym, _∙_}
-use mathlib.Core.Bool.{Bool, true, false, cond}
+use mathlib.Core.Bool.{Bool, true, false, cond, _&&_}
 use mathlib.Core.List.{List, [], _∷_}
 use native.Mathlib.Numerals.{add-one}
 use native.Mathlib.Nat.{add-zero, zero-add}
-use lib.ListN.{length, getD, set, drop, length-set, drop-of-length-le}
+use lib.ListN.{length, getD, set, take, drop, length-set, drop-of-length-le}
+use lib.Dec.{leb}
 use lib.Seq.{drop-cons}
 use Prim.Native.Nat.{ℕ, zero, suc, _+_, _-_, _≤_, _<_}
 use native.Mathlib.Omega.{arith}
 use borrow.Author.Tests.{le-leb, lt-leb}
 use Rattle.fields.specs.Answers.{stepOf}
 use Rattle.fields.specs.declared.Step.the-variants.{Next, Bad}
-use Rattle.fields.specs.Reading.{got, bad}
+use Rattle.fields.specs.Reading.{be}
 use Rattle.fields.specs.Writing.{put}
+use Rattle.fields.proofs.Tests.{and-yes, and-no, and-no-2}
 use Rattle.fields.proofs.Bytes.{put-none, put-one, put-put}
-use Rattle.schema.specs.Schema.{Node, schemaOf}
-use Rattle.policies.specs.Policies.{Policy, Head, head, policiesOf, noPolicy, policyAt}
+use Rattle.schema.specs.Schema.{schemaOf}
+use Rattle.policies.specs.Policies.{Policy, policiesOf, noPolicy, policyAt}
 use Rattle.policies.specs.Pass.{pass, inForce, forced, positions, Listing}
 use Rattle.policies.specs.Index.{Indexed, PolicyIn, policyOf}
-use Rattle.policies.specs.Answers.{headIn}
-use Rattle.policies.specs.declared.HeadRead.{HeadRead}
-use Rattle.policies.specs.declared.HeadRead.the-variants.{Found, NoHead}
-use Rattle.policies.proofs.Stands.{PolicyAt}
-use Rattle.policies.proofs.Places.{policy-there}
+use Rattle.policies.proofs.Stands.{head-back}
+use Rattle.policies.proofs.Places.{policy-here}
 use Rattle.policies.proofs.Sound.{stood}
 
 module _ (a b : ℕ) where
@@ -39,54 +38,34 @@ module _ (a b : ℕ) where
   unfolding pass
   pass-good h k = rw (le-leb a b h, le-leb b (a + 1) (omega arith))
 
--- a policy in force, from the head that was read where it stands
-module _ {g : List Node} (s : List ℕ) (x : Policy) (w : PolicyAt g s x) (a b : ℕ) {f : HeadRead} (e : head s ≡ headIn f) where
-  force-none : {m o : ℕ} → f ≡ NoHead m o → false ≡ inForce a b x
-  force-none {m} {o} h =
-      let z : bad m o ≡ got (w .what) (w .after) = sym (ap headIn h) ∙ sym e ∙ w .read in
-      absurd (let y : _≡_ {A = ℕ} 0 1 = cc in omega arith)
+-- the days of a head, against the pass
+module _ (s : List ℕ) (a b : ℕ) {first : ℕ} (e : first ≡ be 2 s 2) where
+  pub meet-early : b < first → false ≡ (leb (be 2 s 2) b && leb a (be 2 s 4))
+  meet-early h = sym (and-no (leb a (be 2 s 4)) (lt-leb (be 2 s 2) b (omega arith)))
 
-  module _ {first last n q : ℕ} (h : f ≡ Found first last n q) where
-    same-head : w .what ≡ record { first = first; last = last; count = n }
-    same-head =
-        let z : got (record { first = first; last = last; count = n }) q ≡ got (w .what) (w .after) = sym (ap headIn h) ∙ sym e ∙ w .read in
-        cc
+  module _ (h : first ≤ b) {last : ℕ} (d : last ≡ be 2 s 4) where
+    pub meet-late : last < a → false ≡ (leb (be 2 s 2) b && leb a (be 2 s 4))
+    meet-late k = sym (and-no-2 (le-leb (be 2 s 2) b (omega arith)) (lt-leb a (be 2 s 4) (omega arith)))
 
-    first-is : x .first ≡ first
-    first-is = w .first ∙ ap (λ (v : Head). v .first) same-head
+    pub meet-good : a ≤ last → true ≡ (leb (be 2 s 2) b && leb a (be 2 s 4))
+    meet-good k = sym (and-yes (le-leb (be 2 s 2) b (omega arith)) (le-leb a (be 2 s 4) (omega arith)))
 
-    last-is : x .last ≡ last
-    last-is = w .last ∙ ap (λ (v : Head). v .last) same-head
+pub ruleset meeting = (meet-early, meet-late, meet-good)
 
-    force-early : b < first → false ≡ inForce a b x
-    unfolding inForce
-    force-early k = rw (first-is, lt-leb first b k)
+-- policy j, as a callee is lent it from its head on: what its days spell tells whether it is in force
+module _ (schema p t : List ℕ) (j : ℕ) (w : PolicyIn schema p t j) where
+  abbrev lent : List ℕ
+  lent = take (length p - getD t j 0) (drop (getD t j 0) p)
 
-    force-late : first ≤ b → last < a → false ≡ inForce a b x
-    unfolding inForce
-    force-late k l = rw (first-is, last-is, le-leb first b k, lt-leb a last l)
+  pub head-long : 7 ≤ length lent
+  head-long = head-back lent (policy-here schema p t j w .read) .inside
 
-    force-yes : first ≤ b → a ≤ last → true ≡ inForce a b x
-    unfolding inForce
-    force-yes k l = rw (first-is, last-is, le-leb first b k, le-leb a last l)
-
--- the same through the index
-module _ (schema p t : List ℕ) (j : ℕ) (w : PolicyIn schema p t j) (a b : ℕ) {f : HeadRead}
-    (e : head (drop (getD t j 0) p) ≡ headIn f) where
-  pub in-force-none : {m o : ℕ} → f ≡ NoHead m o → false ≡ inForce a b (policyOf schema p j)
-  in-force-none h = force-none _ (policyOf schema p j) (policy-there schema p t j w) a b e h
-
-  module _ {first last n q : ℕ} (h : f ≡ Found first last n q) where
-    pub in-force-early : b < first → false ≡ inForce a b (policyOf schema p j)
-    in-force-early k = force-early _ (policyOf schema p j) (policy-there schema p t j w) a b e h k
-
-    pub in-force-late : first ≤ b → last < a → false ≡ inForce a b (policyOf schema p j)
-    in-force-late k l = force-late _ (policyOf schema p j) (policy-there schema p t j w) a b e h k l
-
-    pub in-force-yes : first ≤ b → a ≤ last → true ≡ inForce a b (policyOf schema p j)
-    in-force-yes k l = force-yes _ (policyOf schema p j) (policy-there schema p t j w) a b e h k l
-
-pub ruleset forcing = (in-force-none, in-force-early, in-force-late, in-force-yes)
+  pub days-tell : (a b : ℕ) {v : Bool} → v ≡ (leb (be 2 lent 2) b && leb a (be 2 lent 4)) → v ≡ inForce a b (policyOf schema p j)
+  unfolding inForce
+  days-tell a b e =
+      let x = policy-here schema p t j w in
+      let h = head-back lent (x .read) in
+      rw (x .first ∙ h .first, x .last ∙ h .last) e
 
 -- ---- the positions of the policies in force
 

@@ -100,14 +100,14 @@ module _ (schema p t : List ℕ) (j : ℕ) (w : PolicyIn schema p t j) where
   pub head-in : getD t j 0 ≤ length p
   head-in = omega (arith, stretch .inside)
 
-  pub policy-there : PolicyAt (schemaOf schema) (drop (getD t j 0) p) (policyOf schema p j)
+  policy-there : PolicyAt (schemaOf schema) (drop (getD t j 0) p) (policyOf schema p j)
   policy-there = stretch .policy
 
   -- the policy's stretch, as a callee is lent it
   abbrev lent : List ℕ
   lent = take (length p - getD t j 0) (drop (getD t j 0) p)
 
-  policy-here : PolicyAt (schemaOf schema) lent (policyOf schema p j)
+  pub policy-here : PolicyAt (schemaOf schema) lent (policyOf schema p j)
   policy-here = subst (λ (b : List ℕ). PolicyAt (schemaOf schema) b (policyOf schema p j)) (sym (rest p (getD t j 0))) policy-there
 
   module _ (n : ℕ) (below : n < length (schemaOf schema)) where

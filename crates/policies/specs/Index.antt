@@ -1,9 +1,12 @@
 -- Where the policies of an accepted file speak of each node.
-use Prim.Native.Nat.{ℕ, _+_, _*_, _<_, _≤_}
+use Prim.Native.Nat.{ℕ, zero, suc, _+_, _*_, _<_, _≤_}
 use mathlib.Core.Path.{_≡_}
 use mathlib.Core.List.{List, [], _∷_}
 use lib.ListN.{length, set, replicate}
-use Rattle.schema.specs.Schema.{schemaOf, nodeAt}
+use Rattle.schema.specs.Schema.{Node, schemaOf, nodeAt}
+use Rattle.schema.specs.Table.{Tabled}
+use Rattle.schema.specs.declared.Variable.{Variable}
+use Rattle.schema.specs.declared.Variable.the-variants.{Number, Listed}
 use Rattle.policies.specs.Policies.{Condition, range, mask, Rule, Policy, rankCount, policiesOf, policyAt}
 
 -- the bytes of a condition, of a PN and of a policy
@@ -25,6 +28,20 @@ rulesWidth (x ∷ xs) = ruleWidth x + rulesWidth xs
 unfoldable pub policyWidth : Policy → ℕ
 policyWidth x = 7 + rulesWidth (x .rules)
 
+-- the same from the schema: the bytes of a variable's condition, and of the conditions before the k-th
+unfoldable pub span : Variable → ℕ
+span (Number lo hi) = 8
+span (Listed size) = 4
+
+unfoldable pub spans : ℕ → List Variable → ℕ
+spans zero vs = 0
+spans (suc k) [] = 0
+spans (suc k) (v ∷ vs) = span v + spans k vs
+
+-- where condition k stands in a node's PN, counted from the ranks
+unfoldable pub offsetOf : Node → ℕ → ℕ
+offsetOf x k = rankCount x + spans k (x .variables)
+
 -- place 16 + 16 n + j of the index: where policy j's ranks of node n begin, counted from its head, 0 for nowhere
 unfoldable pub fillRules : ℕ → ℕ → List Rule → List ℕ → List ℕ
 fillRules j p [] t = t
@@ -41,6 +58,11 @@ fillPolicies j h (x ∷ xs) t = fillPolicies (j + 1) (h + policyWidth x) xs (fil
 -- an index of m places
 unfoldable pub indexOf : ℕ → List Policy → List ℕ
 indexOf m ps = fillPolicies 0 0 ps (replicate m 0)
+
+-- t is the table of the schema file s, which has so many nodes
+pub record SchemaIn (s t : List ℕ) (count : ℕ) : Type 0 where
+  pub table : Tabled s t
+  pub counted : count ≡ length (schemaOf s)
 
 -- policy j of the file p, under the schema file s
 abbrev pub policyOf : List ℕ → List ℕ → ℕ → Policy

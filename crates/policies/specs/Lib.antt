@@ -1,5 +1,3 @@
 pub mod Policies
 pub mod Pass
 pub mod Index
-pub mod Body
-pub mod Answers

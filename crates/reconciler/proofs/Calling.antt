@@ -25,11 +25,11 @@ use Rattle.schema.proofs.Sound.{Sound}
 use Rattle.schema.proofs.Accepted.{sound, schema-got}
 use Rattle.policies.specs.Policies.{Policy, policies, policiesOf, policiesIn}
 use Rattle.policies.specs.Pass.{pass, forced}
-use Rattle.policies.specs.Index.{Indexed}
-use Rattle.policies.specs.Answers.{SchemaIn, Told, policiesRead}
+use Rattle.policies.specs.Index.{Indexed, SchemaIn}
+use Rattle.policy_reader.specs.Answers.{Told, policiesRead}
 use Rattle.policies.proofs.Nodes.{nodes-few}
-use Rattle.policies.specs.declared.PoliciesRead.{PoliciesRead}
-use Rattle.policies.specs.declared.PoliciesRead.the-variants.{Policies, Refused}
+use Rattle.policy_reader.specs.declared.PoliciesRead.{PoliciesRead}
+use Rattle.policy_reader.specs.declared.PoliciesRead.the-variants.{Policies, Refused}
 use Rattle.instances.specs.Instance.{Entry}
 use Rattle.instances.specs.File.{encode}
 use Rattle.instances.specs.Plan.{planned, planOf}

@@ -21,7 +21,7 @@ use Rattle.schema.specs.declared.Variable.{Variable}
 use Rattle.schema.proofs.Sound.{Sound}
 use Rattle.schema.proofs.Access.{node-small}
 use Rattle.schema.proofs.Accepted.{sound}
-use Rattle.policies.specs.Answers.{SchemaIn}
+use Rattle.policies.specs.Index.{SchemaIn}
 use Rattle.instances.specs.Instance.{chooses}
 use Rattle.instances.specs.File.{valueOf}
 use Rattle.instances.specs.Plan.{valuesFrom}

@@ -7,8 +7,7 @@ ghost use Rattle.fields.specs.Outcomes.{Did, placed};
 ghost use Rattle.schema.specs.Table.{NodeIn, Accepted, Tabled, Room, AtMost};
 ghost use Rattle.policies.specs.Policies.{policiesOf, policyAt, rankCount, rankOf};
 ghost use Rattle.policies.specs.Pass.{forced};
-ghost use Rattle.policies.specs.Index.{IndexIn, Indexed, IndexRoom};
-ghost use Rattle.policies.specs.Answers.{SchemaIn};
+ghost use Rattle.policies.specs.Index.{IndexIn, Indexed, IndexRoom, SchemaIn};
 ghost use Rattle.instances.specs.File.{encode};
 ghost use Rattle.instances.specs.Plan.{planned, planOf};
 ghost use Rattle.model.specs.Satisfaction.{every};
@@ -21,7 +20,7 @@ ghost use Rattle.reconciler.specs.Plan.{LeftIs, LeastIn, Columns, Ranked
 use conditions::Conditions;
 use fields::Answer;
 use fields::Step;
-use policies::PoliciesRead;
+use policy_reader::PoliciesRead;
 
 // The bits of the least value left for a variable, or none.
 enum Left {
@@ -459,7 +458,7 @@ fn reconcile_read(
     requires { ⌜ IndexRoom (now schema) (now index) ⌝ }
     ensures { λ r. ⌜ Did (underSchema (schemaOf (now (schema .entry))) (now (p .entry)) a b (now (out .entry))) r (now (out .exit)) ⌝ }
 {
-    match policies::read_policies(schema, table, count, p, index) {
+    match policy_reader::read_policies(schema, table, count, p, index) {
         PoliciesRead::Refused { number, offset } => Answer {
             number,
             file: 2,

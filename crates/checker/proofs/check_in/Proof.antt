@@ -1,6 +1,6 @@
 -- The policies are judged, then the pass.
 -- Rests on the ruleset answering.
-use Rattle.policies.proofs.Above.{indexed}
+use Rattle.policy_reader.proofs.Above.{indexed}
 use Rattle.checker.proofs.Answers.{answering}
 use borrow.Author.Needs.{needs}
 use Rattle.checker.proofs.check_in.Statement.{statement}

@@ -1,6 +1,6 @@
 -- File 2, then the pass, then the instances.
 -- Rests on the ruleset calling.
-use Rattle.policies.proofs.Above.{indexed}
+use Rattle.policy_reader.proofs.Above.{indexed}
 use Rattle.comparison.proofs.Call.{calling}
 use borrow.Author.Needs.{needs}
 use Rattle.comparison.proofs.compare_in.Statement.{statement}

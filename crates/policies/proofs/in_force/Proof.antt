@@ -1,9 +1,9 @@
--- Each return is one outcome of the tests of the days, of the head that stands where the index says.
+-- The days that stand where the index says are those of the policy.
 -- Rests on what the index holds of an accepted file.
 use borrow.Author.Needs.{needs}
 use native.Mathlib.Omega.{arith}
-use Rattle.policies.proofs.Places.{policy-few, policy-long}
-use Rattle.policies.proofs.Pass.{forcing}
+use Rattle.policies.proofs.Places.{policy-few, policy-long, head-in}
+use Rattle.policies.proofs.Pass.{head-long, days-tell}
 use Rattle.policies.proofs.in_force.Statement.{statement}
 use Rattle.policies.proofs.in_force.Tie as tie
 
@@ -13,26 +13,20 @@ mul-head c = omega (arith, policy-few)
 shared-slice-read-head : tie.Need-shared-slice-read-head
 shared-slice-read-head c = omega (arith, policy-few, policy-long)
 
-head-from-requires : tie.Need-head-from-requires
-head-from-requires c κs = search needs
+sub-days-meet : tie.Need-sub-days-meet
+sub-days-meet c = search head-in
 
-enum-told : tie.Need-enum-told
-enum-told c = search needs
+part-days-meet-start : tie.Need-part-days-meet-start
+part-days-meet-start c = search head-in
 
-enum-known-first : tie.Need-enum-known-first
-enum-known-first c = search needs
+part-days-meet-end : tie.Need-part-days-meet-end
+part-days-meet-end c = search needs
+
+days-meet-requires : tie.Need-days-meet-requires
+days-meet-requires c κs = search head-long
 
 returns : tie.Need-returns
-returns c = search forcing
-
-returns-2 : tie.Need-returns-2
-returns-2 c = search forcing
-
-returns-3 : tie.Need-returns-3
-returns-3 c = search forcing
-
-returns-4 : tie.Need-returns-4
-returns-4 c = search forcing
+returns c = search days-tell
 
 pub in-force-spec : {M : Type 1} → statement M
 in-force-spec =
@@ -40,10 +34,8 @@ in-force-spec =
     (tie.spec
     mul-head
     shared-slice-read-head
-    head-from-requires
-    enum-told
-    enum-known-first
-    returns
-    returns-2
-    returns-3
-    returns-4)
+    sub-days-meet
+    part-days-meet-start
+    part-days-meet-end
+    days-meet-requires
+    returns)

@@ -1,7 +1,7 @@
 -- Kind 1 has one rank for each successor, kind 0 none.
 -- Rests on what the schema's accessors tell.
 use borrow.Author.Needs.{needs}
-use Rattle.policies.proofs.Reader.{ranks-one, ranks-none}
+use Rattle.policies.proofs.Nodes.{ranks-one, ranks-none}
 use Rattle.policies.proofs.rank_count.Statement.{statement}
 use Rattle.policies.proofs.rank_count.Tie as tie
 

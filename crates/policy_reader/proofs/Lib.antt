@@ -1,0 +1,6 @@
+mod Reader
+mod Body
+mod Laying
+mod Rules
+mod File
+pub mod Above
