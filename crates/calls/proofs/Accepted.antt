@@ -16,7 +16,7 @@ use Rattle.instances.specs.Instance.{Entry}
 use Rattle.instances.specs.File.{instance}
 use Rattle.model.specs.Reconciling.{reconciled}
 use Rattle.model.specs.Comparing.{compared, forbidden}
-use Rattle.calls.specs.Calls.{given, underSchema, reconciling, permitted, checking, comparing}
+use Rattle.calls.specs.Calls.{given, reconcilingUnder, reconciling, permitted, checkingInForce, checkingUnder, checking, comparingInForce, comparingUnder, comparing}
 
 -- 'schema, policies and pass are accepted if checking them gives no number with file 1, 2 or 3'
 pub record Accepted (f p : List ℕ) (a b : ℕ) : Type 0 where
@@ -32,16 +32,16 @@ pub record Accepted (f p : List ℕ) (a b : ℕ) : Type 0 where
 
 module _ {f p : List ℕ} {a b : ℕ} (A : Accepted f p a b) where
   pub reconciling-is : (out : List ℕ) → reconciling f p a b out ≡ given (A .g) out (reconciled (A .g) (forced a b (A .ps)))
-  unfolding reconciling underSchema judgedIn
+  unfolding reconciling reconcilingUnder judgedIn
   reconciling-is out = rw (A .schema-read, A .policies-read, A .pass-read)
 
   pub checking-is : (s : List ℕ) → checking f p a b s ≡ judged 4 (instance (A .g) s) (λ i. permitted (forbidden (A .g) (forced a b (A .ps)) i))
-  unfolding checking judged
+  unfolding checking checkingUnder checkingInForce judged
   checking-is s = rw (A .schema-read, A .policies-read, A .pass-read)
 
   pub comparing-is : (s t : List ℕ) {i j : List Entry} {q r : ℕ} → instance (A .g) s ≡ got i q → instance (A .g) t ≡ got j r
       → comparing f p a b s t ≡ success (compared (A .g) (forced a b (A .ps)) i j)
-  unfolding comparing judged
+  unfolding comparing comparingUnder comparingInForce judged
   comparing-is s t e h = rw (A .schema-read, A .policies-read, A .pass-read, e, h)
 
   -- the schema of a file of bytes is sound

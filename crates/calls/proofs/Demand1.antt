@@ -26,7 +26,7 @@ use Rattle.copying.specs.Copying.{copyingUnder, copying}
 use Rattle.instances.proofs.Refusals as of-instance
 use Rattle.model.specs.Reconciling.{reconciled}
 use Rattle.model.specs.Comparing.{forbidden}
-use Rattle.calls.specs.Calls.{given, underSchema, reconciling, permitted, checking, comparing}
+use Rattle.calls.specs.Calls.{given, reconcilingUnder, reconciling, permitted, checkingInForce, checkingUnder, checking, comparingInForce, comparingUnder, comparing}
 use Rattle.calls.proofs.Accepted.{Accepted, reconciling-is, checking-is}
 
 -- what the three calls that take policies answer
@@ -114,7 +114,7 @@ unfolding pass
 pass-number a b = numbered (cond-numbered (leb a b && leb b (a + 1)) (got a 0) (bad 12 0) tt (λ e. omega arith))
 
 pub demand-1 : (f p : List ℕ) (a b : ℕ) (s t out : List ℕ) → Demand1 f p a b s t out
-unfolding reconciling underSchema checking comparing copying copyingUnder judged judgedIn given permitted
+unfolding reconciling reconcilingUnder checking checkingUnder checkingInForce comparing comparingUnder comparingInForce copying copyingUnder judged judgedIn given permitted
 demand-1 f p a b s t out =
     record {
       schema-refused = λ {n} {o} e. record { number = of-schema.refused f e; reconcile = rw e; check = rw e; compare = rw e };

@@ -7,7 +7,7 @@ use Rattle.fields.specs.declared.Answer.{Answer}
 use Rattle.fields.specs.Answers.{success, refusal, judged}
 use Rattle.fields.specs.Outcomes.{Outcome, refused, judgedIn, placed}
 use Rattle.schema.specs.Schema.{Node, schema}
-use Rattle.policies.specs.Policies.{policies}
+use Rattle.policies.specs.Policies.{Policy, policies}
 use Rattle.policies.specs.Pass.{pass, forced}
 use Rattle.instances.specs.Instance.{Entry}
 use Rattle.instances.specs.File.{instance, encode}
@@ -20,8 +20,8 @@ given g out none = refused 13 0 0 out
 given g out (some i) = placed (encode g i) out
 
 -- policies file p and pass from a to b, under a schema
-unfoldable pub underSchema : List Node → List ℕ → ℕ → ℕ → List ℕ → Outcome
-underSchema g p a b out =
+unfoldable pub reconcilingUnder : List Node → List ℕ → ℕ → ℕ → List ℕ → Outcome
+reconcilingUnder g p a b out =
     judgedIn out 2 (policies g p) λ ps.
     judgedIn out 3 (pass a b) λ _.
     given g out (reconciled g (forced a b ps))
@@ -30,28 +30,44 @@ underSchema g p a b out =
 unfoldable pub reconciling : List ℕ → List ℕ → ℕ → ℕ → List ℕ → Outcome
 reconciling f p a b out =
     judgedIn out 1 (schema f) λ g.
-    underSchema g p a b out
+    reconcilingUnder g p a b out
 
 -- the checker's last row: '18 first choice or value field that a policy in force forbids; file 4'
 unfoldable pub permitted : Option ℕ → Answer
 permitted none = success 0
 permitted (some o) = refusal 18 4 o
 
--- instance file s
+-- instance file s, ps being the policies in force
+unfoldable pub checkingInForce : List Node → List Policy → List ℕ → Answer
+checkingInForce g ps s =
+    judged 4 (instance g s) λ i.
+    permitted (forbidden g ps i)
+
+unfoldable pub checkingUnder : List Node → List ℕ → ℕ → ℕ → List ℕ → Answer
+checkingUnder g p a b s =
+    judged 2 (policies g p) λ ps.
+    judged 3 (pass a b) λ _.
+    checkingInForce g (forced a b ps) s
+
 unfoldable pub checking : List ℕ → List ℕ → ℕ → ℕ → List ℕ → Answer
 checking f p a b s =
     judged 1 (schema f) λ g.
-    judged 2 (policies g p) λ ps.
-    judged 3 (pass a b) λ _.
-    judged 4 (instance g s) λ i.
-    permitted (forbidden g (forced a b ps) i)
+    checkingUnder g p a b s
 
 -- 'two instances, files 4 and 5, which needn't meet the policies'; the verdict beside number 0
+unfoldable pub comparingInForce : List Node → List Policy → List ℕ → List ℕ → Answer
+comparingInForce g ps s t =
+    judged 4 (instance g s) λ i.
+    judged 5 (instance g t) λ j.
+    success (compared g ps i j)
+
+unfoldable pub comparingUnder : List Node → List ℕ → ℕ → ℕ → List ℕ → List ℕ → Answer
+comparingUnder g p a b s t =
+    judged 2 (policies g p) λ ps.
+    judged 3 (pass a b) λ _.
+    comparingInForce g (forced a b ps) s t
+
 unfoldable pub comparing : List ℕ → List ℕ → ℕ → ℕ → List ℕ → List ℕ → Answer
 comparing f p a b s t =
     judged 1 (schema f) λ g.
-    judged 2 (policies g p) λ ps.
-    judged 3 (pass a b) λ _.
-    judged 4 (instance g s) λ i.
-    judged 5 (instance g t) λ j.
-    success (compared g (forced a b ps) i j)
+    comparingUnder g p a b s t

@@ -22,8 +22,8 @@ use Rattle.instances.specs.File.{instance}
 use Rattle.lookup.specs.Lookup.{instanceOf}
 use Rattle.lookup.proofs.Lookup.{readable-by}
 use Rattle.model.specs.Comparing.{forbidden}
-use Rattle.calls.specs.Calls.{permitted, checking}
-use Rattle.checker.specs.Checks.{forbiddenIn, afterPass, afterPolicies, afterSchema}
+use Rattle.calls.specs.Calls.{permitted, checkingInForce, checkingUnder, checking}
+use Rattle.checker.specs.Checks.{forbiddenIn}
 use Rattle.checker.specs.declared.Forbidden.{Forbidden}
 use Rattle.checker.specs.declared.Forbidden.the-variants.{Nowhere, At}
 
@@ -48,40 +48,36 @@ module _ (o : Option ℕ) {x : Forbidden} (e : x ≡ forbiddenIn o) where
 
 -- ---- file by file
 
-module _ (g : List Node) (ps : List Policy) (a b : ℕ) (s : List ℕ) {f : Step} (e : f ≡ stepOf (instance g s)) where
-  pub instance-bad : {n o : ℕ} → f ≡ Bad n o → refusal n 4 o ≡ afterPass g ps a b s
-  unfolding afterPass judged
+module _ (g : List Node) (ps : List Policy) (s : List ℕ) {f : Step} (e : f ≡ stepOf (instance g s)) where
+  pub instance-bad : {n o : ℕ} → f ≡ Bad n o → refusal n 4 o ≡ checkingInForce g ps s
+  unfolding checkingInForce judged
   instance-bad h = rw (stopped (instance g s) e h)
 
-  pub instance-ok : {q : ℕ} {r : Answer} → f ≡ Next q → r ≡ permitted (forbidden g (forced a b ps) (instanceOf g s)) → r ≡ afterPass g ps a b s
-  unfolding afterPass judged
+  pub instance-ok : {q : ℕ} {r : Answer} → f ≡ Next q → r ≡ permitted (forbidden g ps (instanceOf g s)) → r ≡ checkingInForce g ps s
+  unfolding checkingInForce judged
   instance-ok h k = rw (readable-by g s e h .reads) k
 
-module _ (g : List Node) (ps : List Policy) (a b : ℕ) (s : List ℕ) {f : Step} (e : f ≡ stepOf (pass a b)) where
-  pub days-bad : {n o : ℕ} → f ≡ Bad n o → refusal n 3 o ≡ afterPolicies g ps a b s
-  unfolding afterPolicies judged
-  days-bad h = rw (stopped (pass a b) e h)
+module _ (schema p t : List ℕ) (a b : ℕ) (s : List ℕ) {f : PoliciesRead} (w : Told schema p f t) where
+  pub policies-bad : {n o : ℕ} → f ≡ Refused n o → refusal n 2 o ≡ checkingUnder (schemaOf schema) p a b s
+  unfolding checkingUnder judged
+  policies-bad h = rw (refused-policies schema p t w h)
 
-  pub days-ok : {q : ℕ} {r : Answer} → f ≡ Next q → r ≡ afterPass g ps a b s → r ≡ afterPolicies g ps a b s
-  unfolding afterPolicies judged
-  days-ok h k = rw (stepped (pass a b) e h .1) k
+  module _ {c : ℕ} (h : f ≡ Policies c) {x : Step} (e : x ≡ stepOf (pass a b)) where
+    pub pass-bad : {n o : ℕ} → x ≡ Bad n o → refusal n 3 o ≡ checkingUnder (schemaOf schema) p a b s
+    unfolding checkingUnder judged
+    pass-bad k = rw (accepted-policies schema p t w h .1, stopped (pass a b) e k)
 
-module _ (schema p t : List ℕ) (a b : ℕ) (s : List ℕ) {f : PoliciesRead} (e : Told schema p f t) where
-  pub policies-bad : {n o : ℕ} → f ≡ Refused n o → refusal n 2 o ≡ afterSchema (schemaOf schema) p a b s
-  unfolding afterSchema judged
-  policies-bad h = rw (refused-policies schema p t e h)
-
-  pub policies-ok : {n : ℕ} {r : Answer} → f ≡ Policies n → r ≡ afterPolicies (schemaOf schema) (policiesOf (schemaOf schema) p) a b s → r ≡ afterSchema (schemaOf schema) p a b s
-  unfolding afterSchema judged
-  policies-ok h k = rw (accepted-policies schema p t e h .1) k
+    pub pass-ok : {q : ℕ} {r : Answer} → x ≡ Next q → r ≡ checkingInForce (schemaOf schema) (forced a b (policiesOf (schemaOf schema) p)) s → r ≡ checkingUnder (schemaOf schema) p a b s
+    unfolding checkingUnder judged
+    pass-ok k v = rw (accepted-policies schema p t w h .1, stepped (pass a b) e k .1) v
 
 module _ (schema-file p : List ℕ) (a b : ℕ) (s : List ℕ) {f : Step} (e : f ≡ stepOf (schema schema-file)) where
   pub call-bad : {n o : ℕ} → f ≡ Bad n o → refusal n 1 o ≡ checking schema-file p a b s
   unfolding checking judged
   call-bad h = rw (stopped (schema schema-file) e h)
 
-  pub call-ok : {q : ℕ} {r : Answer} → f ≡ Next q → r ≡ afterSchema (schemaOf schema-file) p a b s → r ≡ checking schema-file p a b s
-  unfolding checking afterSchema afterPolicies afterPass judged
+  pub call-ok : {q : ℕ} {r : Answer} → f ≡ Next q → r ≡ checkingUnder (schemaOf schema-file) p a b s → r ≡ checking schema-file p a b s
+  unfolding checking judged
   call-ok h k = rw (schema-got schema-file e h) k
 
-pub ruleset answering = (judge-none, judge-some, instance-bad, instance-ok, days-bad, days-ok, policies-bad, policies-ok, call-bad, call-ok)
+pub ruleset answering = (judge-none, judge-some, instance-bad, instance-ok, policies-bad, pass-bad, pass-ok, call-bad, call-ok)

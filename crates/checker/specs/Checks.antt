@@ -8,18 +8,13 @@ use lib.ListN.{length, getD}
 use lib.Dec.{eqb}
 use lib.IntN.{ℤ, pos}
 use lib.Signed.{leZ}
-use Rattle.fields.specs.declared.Answer.{Answer}
-use Rattle.fields.specs.Answers.{judged}
 use Rattle.fields.specs.Reading.{Got, got, bad, be, signed}
 use Rattle.numbers.specs.Bits.{bit}
 use Rattle.schema.specs.Schema.{Node, nodeAt}
-use Rattle.policies.specs.Policies.{Policy, rankOf, policies}
-use Rattle.policies.specs.Pass.{pass, forced}
+use Rattle.policies.specs.Policies.{Policy, rankOf}
 use Rattle.instances.specs.Instance.{Entry, rightChoice}
-use Rattle.instances.specs.File.{values, instance}
+use Rattle.instances.specs.File.{values}
 use Rattle.model.specs.Satisfaction.{every}
-use Rattle.model.specs.Comparing.{forbidden}
-use Rattle.calls.specs.Calls.{permitted}
 use Rattle.conditions.specs.declared.Conditions.{Conditions}
 use Rattle.checker.specs.declared.Forbidden.{Forbidden}
 use Rattle.checker.specs.declared.Forbidden.the-variants.{Nowhere, At}
@@ -69,19 +64,3 @@ pub record EntryThere (g : List Node) (s : List ℕ) (p : ℕ) : Type 0 where
   pub below : getD s (p + 2) 0 < length g
   pub right : rightChoice (nodeAt g (getD s (p + 2) 0)) (getD s (p + 3) 0) ≡ true
   pub values-there : ValuesThere g (getD s (p + 2) 0) s (p + 4)
-
--- what is left to judge of a call after its schema, after its policies and after its pass
-unfoldable pub afterPass : List Node → List Policy → ℕ → ℕ → List ℕ → Answer
-afterPass g ps a b s =
-    judged 4 (instance g s) λ i.
-    permitted (forbidden g (forced a b ps) i)
-
-unfoldable pub afterPolicies : List Node → List Policy → ℕ → ℕ → List ℕ → Answer
-afterPolicies g ps a b s =
-    judged 3 (pass a b) λ _.
-    afterPass g ps a b s
-
-unfoldable pub afterSchema : List Node → List ℕ → ℕ → ℕ → List ℕ → Answer
-afterSchema g p a b s =
-    judged 2 (policies g p) λ ps.
-    afterPolicies g ps a b s

@@ -14,9 +14,9 @@ ghost use Rattle.instances.specs.File.{values};
 ghost use Rattle.lookup.specs.Lookup.{instanceOf, Readable};
 ghost use Rattle.model.specs.Satisfaction.{columnOf, choiceMeets};
 ghost use Rattle.model.specs.Comparing.{forbiddenValue, forbiddenEntry, forbidden};
-ghost use Rattle.calls.specs.Calls.{permitted, checking};
+ghost use Rattle.calls.specs.Calls.{permitted, checkingInForce, checkingUnder, checking};
 ghost use Rattle.conditions.specs.Held.{InForce, Combined};
-ghost use Rattle.checker.specs.Checks.{forbiddenIn, allowedColumn, choosing, widthOf, admitsAt, valuesIn, ValuesThere, entryIn, EntryThere, afterPass, afterPolicies, afterSchema};
+ghost use Rattle.checker.specs.Checks.{forbiddenIn, allowedColumn, choosing, widthOf, admitsAt, valuesIn, ValuesThere, entryIn, EntryThere};
 use conditions::Conditions;
 use fields::Answer;
 use fields::Step;
@@ -300,7 +300,7 @@ fn check_instance(
     requires { ⌜ Accepted (now schema) ⌝ }
     requires { ⌜ Tabled (now schema) (now table) ⌝ }
     requires { ⌜ Indexed (now schema) (now p) (now index) count ⌝ }
-    ensures { λ r. ⌜ r ≡ afterPass (schemaOf (now (schema .entry))) (policiesOf (schemaOf (now (schema .entry))) (now (p .entry))) a b (now (s .entry)) ⌝ }
+    ensures { λ r. ⌜ r ≡ checkingInForce (schemaOf (now (schema .entry))) (forced a b (policiesOf (schemaOf (now (schema .entry))) (now (p .entry)))) (now (s .entry)) ⌝ }
 {
     match instance_reader::read_instance(schema, table, s) {
         Step::Bad { number, offset } => Answer {
@@ -310,33 +310,6 @@ fn check_instance(
             value: 0,
         },
         Step::Next { at: _ } => judge(schema, table, p, index, count, a, b, s),
-    }
-}
-
-// The answer after schema and policies.
-fn check_days(
-    schema: &[u8],
-    table: &[usize],
-    p: &[u8],
-    index: &[usize],
-    count: usize,
-    a: u16,
-    b: u16,
-    s: &[u8],
-) -> Answer
-    requires { ⌜ Accepted (now schema) ⌝ }
-    requires { ⌜ Tabled (now schema) (now table) ⌝ }
-    requires { ⌜ Indexed (now schema) (now p) (now index) count ⌝ }
-    ensures { λ r. ⌜ r ≡ afterPolicies (schemaOf (now (schema .entry))) (policiesOf (schemaOf (now (schema .entry))) (now (p .entry))) a b (now (s .entry)) ⌝ }
-{
-    match policies::check_pass(a, b) {
-        Step::Bad { number, offset } => Answer {
-            number,
-            file: 3,
-            offset,
-            value: 0,
-        },
-        Step::Next { at: _ } => check_instance(schema, table, p, index, count, a, b, s),
     }
 }
 
@@ -355,7 +328,7 @@ fn check_in(
     requires { ⌜ AtMost 64 (length (schemaOf (now schema))) nodes ⌝ }
     requires { ⌜ Room (now schema) (now table) ⌝ }
     requires { ⌜ IndexRoom (now schema) (now index) ⌝ }
-    ensures { λ r. ⌜ r ≡ afterSchema (schemaOf (now (schema .entry))) (now (p .entry)) a b (now (s .entry)) ⌝ }
+    ensures { λ r. ⌜ r ≡ checkingUnder (schemaOf (now (schema .entry))) (now (p .entry)) a b (now (s .entry)) ⌝ }
 {
     nodes::fill_table(schema, table);
     match policy_reader::read_policies(schema, table, nodes, p, index) {
@@ -365,14 +338,22 @@ fn check_in(
             offset,
             value: 0,
         },
-        PoliciesRead::Policies { count } => { check_days(schema, table, p, index, count, a, b, s) }
+        PoliciesRead::Policies { count } => match policies::check_pass(a, b) {
+            Step::Bad { number, offset } => Answer {
+                number,
+                file: 3,
+                offset,
+                value: 0,
+            },
+            Step::Next { at: _ } => check_instance(schema, table, p, index, count, a, b, s),
+        },
     }
 }
 
 // The answer after the schema; few nodes have a short table and a short index.
 fn check_policies(schema: &[u8], p: &[u8], a: u16, b: u16, s: &[u8]) -> Answer
     requires { ⌜ Accepted (now schema) ⌝ }
-    ensures { λ r. ⌜ r ≡ afterSchema (schemaOf (now (schema .entry))) (now (p .entry)) a b (now (s .entry)) ⌝ }
+    ensures { λ r. ⌜ r ≡ checkingUnder (schemaOf (now (schema .entry))) (now (p .entry)) a b (now (s .entry)) ⌝ }
 {
     let nodes = nodes::count_of(schema);
     if nodes <= 16 {

@@ -23,8 +23,8 @@ use Rattle.lookup.specs.Lookup.{instanceOf}
 use Rattle.lookup.proofs.Lookup.{readable-by}
 use Rattle.model.specs.Order.{asGood}
 use Rattle.model.specs.Comparing.{verdict, compared}
-use Rattle.calls.specs.Calls.{comparing}
-use Rattle.comparison.specs.Comparison.{Ranking, withPolicies, withSchema}
+use Rattle.calls.specs.Calls.{comparingInForce, comparingUnder, comparing}
+use Rattle.comparison.specs.Comparison.{Ranking}
 use Rattle.conditions.proofs.Listed.{listed}
 
 -- ---- the policies in force
@@ -43,33 +43,33 @@ verdict-by g ps s t e f q = q ∙ ap₂ verdict e f
 -- ---- the instances
 
 module _ (g : List Node) (ps : List Policy) (s t : List ℕ) {x : Step} (e : x ≡ stepOf (instance g s)) where
-  pub first-bad : {n o : ℕ} → x ≡ Bad n o → refusal n 4 o ≡ withPolicies g ps s t
-  unfolding withPolicies judged
+  pub first-bad : {n o : ℕ} → x ≡ Bad n o → refusal n 4 o ≡ comparingInForce g ps s t
+  unfolding comparingInForce judged
   first-bad h = rw (stopped (instance g s) e h)
 
   module _ {q : ℕ} (h : x ≡ Next q) {y : Step} (f : y ≡ stepOf (instance g t)) where
-    pub second-bad : {n o : ℕ} → y ≡ Bad n o → refusal n 5 o ≡ withPolicies g ps s t
-    unfolding withPolicies judged
+    pub second-bad : {n o : ℕ} → y ≡ Bad n o → refusal n 5 o ≡ comparingInForce g ps s t
+    unfolding comparingInForce judged
     second-bad k = rw (readable-by g s e h .reads, stopped (instance g t) f k)
 
-    pub both-read : {r v : ℕ} → y ≡ Next r → v ≡ compared g ps (instanceOf g s) (instanceOf g t) → success v ≡ withPolicies g ps s t
-    unfolding withPolicies judged
+    pub both-read : {r v : ℕ} → y ≡ Next r → v ≡ compared g ps (instanceOf g s) (instanceOf g t) → success v ≡ comparingInForce g ps s t
+    unfolding comparingInForce judged
     both-read k w = rw (readable-by g s e h .reads, readable-by g t f k .reads) (ap success w)
 
 -- ---- policies and pass
 
 module _ (schema p t : List ℕ) (a b : ℕ) (s i : List ℕ) {x : PoliciesRead} (w : Told schema p x t) where
-  pub policies-bad : {n o : ℕ} → x ≡ Refused n o → refusal n 2 o ≡ withSchema (schemaOf schema) p a b s i
-  unfolding withSchema judged
+  pub policies-bad : {n o : ℕ} → x ≡ Refused n o → refusal n 2 o ≡ comparingUnder (schemaOf schema) p a b s i
+  unfolding comparingUnder judged
   policies-bad h = rw (refused-policies schema p t w h)
 
   module _ {c : ℕ} (h : x ≡ Policies c) {y : Step} (f : y ≡ stepOf (pass a b)) where
-    pub pass-bad : {n o : ℕ} → y ≡ Bad n o → refusal n 3 o ≡ withSchema (schemaOf schema) p a b s i
-    unfolding withSchema judged
+    pub pass-bad : {n o : ℕ} → y ≡ Bad n o → refusal n 3 o ≡ comparingUnder (schemaOf schema) p a b s i
+    unfolding comparingUnder judged
     pass-bad k = rw (accepted-policies schema p t w h .1, stopped (pass a b) f k)
 
-    pub pass-ok : {q : ℕ} {r : Answer} → y ≡ Next q → r ≡ withPolicies (schemaOf schema) (forced a b (policiesOf (schemaOf schema) p)) s i → r ≡ withSchema (schemaOf schema) p a b s i
-    unfolding withSchema judged
+    pub pass-ok : {q : ℕ} {r : Answer} → y ≡ Next q → r ≡ comparingInForce (schemaOf schema) (forced a b (policiesOf (schemaOf schema) p)) s i → r ≡ comparingUnder (schemaOf schema) p a b s i
+    unfolding comparingUnder judged
     pass-ok k v = rw (accepted-policies schema p t w h .1, stepped (pass a b) f k .1) v
 
 -- ---- the schema
@@ -79,8 +79,8 @@ module _ (f p : List ℕ) (a b : ℕ) (s t : List ℕ) {x : Step} (e : x ≡ ste
   unfolding comparing judged
   schema-bad h = rw (stopped (schema f) e h)
 
-  pub schema-ok : {q : ℕ} {r : Answer} → x ≡ Next q → r ≡ withSchema (schemaOf f) p a b s t → r ≡ comparing f p a b s t
-  unfolding comparing withSchema withPolicies judged
+  pub schema-ok : {q : ℕ} {r : Answer} → x ≡ Next q → r ≡ comparingUnder (schemaOf f) p a b s t → r ≡ comparing f p a b s t
+  unfolding comparing judged
   schema-ok h v = rw (schema-got f e h) v
 
 pub ruleset calling = (first-bad, second-bad, both-read, policies-bad, pass-bad, pass-ok, schema-bad, schema-ok)

@@ -4,16 +4,10 @@ use mathlib.Core.List.{List}
 use mathlib.Core.Bool.{Bool, cond, _&&_, _||_}
 use lib.Dec.{eqb, ltb}
 use lib.ListN.{getD}
-use Rattle.fields.specs.declared.Answer.{Answer}
-use Rattle.fields.specs.Answers.{judged, success}
 use Rattle.schema.specs.Schema.{Node, nodeAt}
-use Rattle.policies.specs.Policies.{Policy, policies}
-use Rattle.policies.specs.Pass.{pass, forced}
 use Rattle.policies.specs.Index.{IndexIn}
 use Rattle.instances.specs.Instance.{chooses}
-use Rattle.instances.specs.File.{instance}
 use Rattle.model.specs.Satisfaction.{every}
-use Rattle.model.specs.Comparing.{compared}
 use Rattle.conditions.specs.Held.{InForce}
 
 -- the index of the file p, and the policies in force
@@ -32,17 +26,3 @@ byChoice better h n x y = better n x y || eqb x y && h x
 -- all clauses
 unfoldable pub byNode : List Node → (ℕ → ℕ → ℕ → Bool) → (ℕ → Bool) → ℕ → ℕ → ℕ → Bool
 byNode g better h n x y = cond (chooses (nodeAt g n)) (byChoice better h n x y) (every h (nodeAt g n .successors))
-
--- the call, once schema, policies and pass are accepted, ps being the policies in force
-unfoldable pub withPolicies : List Node → List Policy → List ℕ → List ℕ → Answer
-withPolicies g ps s t =
-    judged 4 (instance g s) λ i.
-    judged 5 (instance g t) λ j.
-    success (compared g ps i j)
-
--- once the schema is
-unfoldable pub withSchema : List Node → List ℕ → ℕ → ℕ → List ℕ → List ℕ → Answer
-withSchema g p a b s t =
-    judged 2 (policies g p) λ ps.
-    judged 3 (pass a b) λ _.
-    withPolicies g (forced a b ps) s t

@@ -11,8 +11,8 @@ ghost use Rattle.lookup.specs.Lookup.{instanceOf, Readable};
 ghost use Rattle.model.specs.Satisfaction.{columnOf, every};
 ghost use Rattle.model.specs.Order.{better, asGood};
 ghost use Rattle.model.specs.Comparing.{verdict, compared};
-ghost use Rattle.calls.specs.Calls.{comparing};
-ghost use Rattle.comparison.specs.Comparison.{Ranking, flagged, byChoice, byNode, withSchema, withPolicies};
+ghost use Rattle.calls.specs.Calls.{comparingInForce, comparingUnder, comparing};
+ghost use Rattle.comparison.specs.Comparison.{Ranking, flagged, byChoice, byNode};
 use fields::Answer;
 use fields::Step;
 use policy_reader::PoliciesRead;
@@ -270,7 +270,7 @@ fn compare_instances(
     requires { ⌜ Accepted (now schema) ⌝ }
     requires { ⌜ Tabled (now schema) (now table) ⌝ }
     requires { ⌜ Indexed (now schema) (now p) (now index) count ⌝ }
-    ensures { λ r. ⌜ r ≡ withPolicies (schemaOf (now (schema .entry))) (forced a b (policiesOf (schemaOf (now (schema .entry))) (now (p .entry)))) (now (s .entry)) (now (t .entry)) ⌝ }
+    ensures { λ r. ⌜ r ≡ comparingInForce (schemaOf (now (schema .entry))) (forced a b (policiesOf (schemaOf (now (schema .entry))) (now (p .entry)))) (now (s .entry)) (now (t .entry)) ⌝ }
 {
     match instance_reader::read_instance(schema, table, s) {
         Step::Bad { number, offset } => Answer {
@@ -312,7 +312,7 @@ fn compare_in(
     requires { ⌜ AtMost 64 (length (schemaOf (now schema))) nodes ⌝ }
     requires { ⌜ Room (now schema) (now table) ⌝ }
     requires { ⌜ IndexRoom (now schema) (now index) ⌝ }
-    ensures { λ r. ⌜ r ≡ withSchema (schemaOf (now (schema .entry))) (now (p .entry)) a b (now (s .entry)) (now (t .entry)) ⌝ }
+    ensures { λ r. ⌜ r ≡ comparingUnder (schemaOf (now (schema .entry))) (now (p .entry)) a b (now (s .entry)) (now (t .entry)) ⌝ }
 {
     nodes::fill_table(schema, table);
     match policy_reader::read_policies(schema, table, nodes, p, index) {
@@ -339,7 +339,7 @@ fn compare_in(
 // Few nodes have a short table and a short index.
 fn compare_policies(schema: &[u8], p: &[u8], a: u16, b: u16, s: &[u8], t: &[u8]) -> Answer
     requires { ⌜ Accepted (now schema) ⌝ }
-    ensures { λ r. ⌜ r ≡ withSchema (schemaOf (now (schema .entry))) (now (p .entry)) a b (now (s .entry)) (now (t .entry)) ⌝ }
+    ensures { λ r. ⌜ r ≡ comparingUnder (schemaOf (now (schema .entry))) (now (p .entry)) a b (now (s .entry)) (now (t .entry)) ⌝ }
 {
     let nodes = nodes::count_of(schema);
     if nodes <= 16 {

@@ -22,7 +22,7 @@ use Rattle.policies.specs.Pass.{pass, forced}
 use Rattle.instances.specs.Instance.{Entry}
 use Rattle.instances.specs.File.{encode}
 use Rattle.model.specs.Reconciling.{reconciled}
-use Rattle.calls.specs.Calls.{given, underSchema, reconciling}
+use Rattle.calls.specs.Calls.{given, reconcilingUnder, reconciling}
 use Rattle.lines.specs.Record.{Pass, passAt, passIn}
 use Rattle.lines.specs.Line.{lineOf, badLineOf, Laid}
 use Rattle.lines.specs.declared.PassRead.{PassRead}
@@ -60,7 +60,7 @@ given-within g out none = record { inside = omega arith; long = refl }
 given-within g out (some i) = placed-within (encode g i) out
 
 reconciling-within : (f p : List ℕ) (a b : ℕ) (out : List ℕ) → Within out (reconciling f p a b out)
-unfolding reconciling underSchema
+unfolding reconciling reconcilingUnder
 reconciling-within f p a b out =
     judged-within out 1 (schema f) _
     (λ g. judged-within out 2 (policies g p) _

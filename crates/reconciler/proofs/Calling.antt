@@ -38,7 +38,7 @@ use Rattle.model.specs.Reconciling.{can, plan, reconcile, reconciled}
 use Rattle.model.proofs.Reconciler.{answer-by-plan}
 use Rattle.model.proofs.Right.{lawful}
 use Rattle.order.specs.Order.{inSet}
-use Rattle.calls.specs.Calls.{given, underSchema, reconciling}
+use Rattle.calls.specs.Calls.{given, reconcilingUnder, reconciling}
 use Rattle.reconciler.specs.Plan.{rulesIn, Planned}
 
 -- ---- the file of a plan
@@ -119,8 +119,8 @@ module _ (s p out : List ℕ) (a b : ℕ) {f : PoliciesRead} {t : List ℕ} (w :
       go (got ps q) z = (q, refl, let y : Policies n ≡ Policies (length ps) = sym e ∙ w .answer ∙ ap policiesRead z in cc)
       go (bad m o) z = let y : Policies n ≡ Refused m o = sym e ∙ w .answer ∙ ap policiesRead z in absurd (let k : _≡_ {A = ℕ} 0 1 = cc in omega arith)
 
-  pub policies-refused : {n o : ℕ} → f ≡ Refused n o → Did (underSchema (schemaOf s) p a b out) (refusal n 2 o) out
-  unfolding underSchema judgedIn
+  pub policies-refused : {n o : ℕ} → f ≡ Refused n o → Did (reconcilingUnder (schemaOf s) p a b out) (refusal n 2 o) out
+  unfolding reconcilingUnder judgedIn
   policies-refused {n} {o} e = rw (go (policies (schemaOf s) p) refl) (record { answer = refl; buffer = refl })
     where
       go : (g : Got (List Policy)) → policies (schemaOf s) p ≡ g → g ≡ bad n o
@@ -131,13 +131,13 @@ module _ (s p out : List ℕ) (a b : ℕ) {f : PoliciesRead} {t : List ℕ} (w :
   policies-indexed e = record { index = w .index; counted = read-got e .2 }
 
   module _ {n : ℕ} (e : f ≡ Policies n) {x : Step} (d : x ≡ stepOf (pass a b)) where
-    pub pass-refused : {m o : ℕ} → x ≡ Bad m o → Did (underSchema (schemaOf s) p a b out) (refusal m 3 o) out
-    unfolding underSchema judgedIn
+    pub pass-refused : {m o : ℕ} → x ≡ Bad m o → Did (reconcilingUnder (schemaOf s) p a b out) (refusal m 3 o) out
+    unfolding reconcilingUnder judgedIn
     pass-refused h = rw (read-got e .1, stopped (pass a b) d h) (record { answer = refl; buffer = refl })
 
     pub pass-accepted : {q : ℕ} {r : Answer} {after : List ℕ} → x ≡ Next q
-        → Did (given (schemaOf s) out (reconciled (schemaOf s) (forced a b (policiesOf (schemaOf s) p)))) r after → Did (underSchema (schemaOf s) p a b out) r after
-    unfolding underSchema judgedIn
+        → Did (given (schemaOf s) out (reconciled (schemaOf s) (forced a b (policiesOf (schemaOf s) p)))) r after → Did (reconcilingUnder (schemaOf s) p a b out) r after
+    unfolding reconcilingUnder judgedIn
     pass-accepted h k = rw (read-got e .1, stepped (pass a b) d h .1) k
 
 -- ---- the schema
@@ -147,7 +147,7 @@ module _ (s p out : List ℕ) (a b : ℕ) {x : Step} (e : x ≡ stepOf (schema s
   unfolding reconciling judgedIn
   schema-refused h = rw (stopped (schema s) e h) (record { answer = refl; buffer = refl })
 
-  pub schema-accepted : {q : ℕ} {r : Answer} {after : List ℕ} → x ≡ Next q → Did (underSchema (schemaOf s) p a b out) r after → Did (reconciling s p a b out) r after
+  pub schema-accepted : {q : ℕ} {r : Answer} {after : List ℕ} → x ≡ Next q → Did (reconcilingUnder (schemaOf s) p a b out) r after → Did (reconciling s p a b out) r after
   unfolding reconciling judgedIn
   schema-accepted h k = rw (schema-got s e h) k
 

@@ -15,7 +15,7 @@ ghost use Rattle.model.specs.Reconciling.{reconciled};
 ghost use Rattle.order.specs.Order.{inSet};
 ghost use Rattle.conditions.specs.Held.{InForce};
 ghost use Rattle.conditions.specs.Places.{SaidAt, Found};
-ghost use Rattle.calls.specs.Calls.{given, underSchema, reconciling};
+ghost use Rattle.calls.specs.Calls.{given, reconcilingUnder, reconciling};
 ghost use Rattle.reconciler.specs.Plan.{LeftIs, LeastIn, Columns, Ranked, RowCopied, RowFilled, SuccessorsIn, Chosen, NodePlanned, Planned};
 use conditions::Conditions;
 use fields::Answer;
@@ -456,7 +456,7 @@ fn reconcile_read(
     requires { ⌜ Accepted (now schema) ⌝ }
     requires { ⌜ SchemaIn (now schema) (now table) count ⌝ }
     requires { ⌜ IndexRoom (now schema) (now index) ⌝ }
-    ensures { λ r. ⌜ Did (underSchema (schemaOf (now (schema .entry))) (now (p .entry)) a b (now (out .entry))) r (now (out .exit)) ⌝ }
+    ensures { λ r. ⌜ Did (reconcilingUnder (schemaOf (now (schema .entry))) (now (p .entry)) a b (now (out .entry))) r (now (out .exit)) ⌝ }
 {
     match policy_reader::read_policies(schema, table, count, p, index) {
         PoliciesRead::Refused { number, offset } => Answer {
@@ -492,7 +492,7 @@ fn reconcile_in(
     requires { ⌜ AtMost 64 (length (schemaOf (now schema))) count ⌝ }
     requires { ⌜ Room (now schema) (now table) ⌝ }
     requires { ⌜ IndexRoom (now schema) (now index) ⌝ }
-    ensures { λ r. ⌜ Did (underSchema (schemaOf (now (schema .entry))) (now (p .entry)) a b (now (out .entry))) r (now (out .exit)) ⌝ }
+    ensures { λ r. ⌜ Did (reconcilingUnder (schemaOf (now (schema .entry))) (now (p .entry)) a b (now (out .entry))) r (now (out .exit)) ⌝ }
 {
     nodes::fill_table(schema, table);
     reconcile_read(schema, table, count, p, a, b, index, out)
@@ -501,7 +501,7 @@ fn reconcile_in(
 // Policies and pass, the schema being accepted; a schema of few nodes has short tables, which are sooner cleared.
 fn reconcile_under(schema: &[u8], p: &[u8], a: u16, b: u16, out: &mut [u8]) -> Answer
     requires { ⌜ Accepted (now schema) ⌝ }
-    ensures { λ r. ⌜ Did (underSchema (schemaOf (now (schema .entry))) (now (p .entry)) a b (now (out .entry))) r (now (out .exit)) ⌝ }
+    ensures { λ r. ⌜ Did (reconcilingUnder (schemaOf (now (schema .entry))) (now (p .entry)) a b (now (out .entry))) r (now (out .exit)) ⌝ }
 {
     let count = nodes::count_of(schema);
     if count <= 4 {
