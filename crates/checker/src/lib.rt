@@ -357,7 +357,7 @@ fn check_policies(schema: &[u8], p: &[u8], a: u16, b: u16, s: &[u8]) -> Answer
 {
     let nodes = nodes::count_of(schema);
     if nodes <= 16 {
-        let mut table = [0usize; 128];
+        let mut table = [0usize; 80];
         let mut index = [0usize; 272];
         return check_in(schema, nodes, p, a, b, s, &mut table, &mut index);
     }

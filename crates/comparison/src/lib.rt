@@ -343,7 +343,7 @@ fn compare_policies(schema: &[u8], p: &[u8], a: u16, b: u16, s: &[u8], t: &[u8])
 {
     let nodes = nodes::count_of(schema);
     if nodes <= 16 {
-        let mut table = [0usize; 128];
+        let mut table = [0usize; 80];
         let mut index = [0usize; 272];
         return compare_in(schema, nodes, p, a, b, s, t, &mut table, &mut index);
     }

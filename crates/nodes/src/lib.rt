@@ -39,7 +39,7 @@ fn fill_variables(s: &[u8], n: usize, v: usize, from: usize, table: &mut [usize]
     let mut k: usize = 0;
     let mut at = from;
     while k < v {
-        table[64 + 4 * n + k] = at;
+        table[5 * n + 1 + k] = at;
         at += variable_width(s, at);
         k += 1;
     }
@@ -56,7 +56,7 @@ pub fn fill_table(s: &[u8], table: &mut [usize])
     let mut n: usize = 0;
     let mut at: usize = 3;
     while n < count {
-        table[n] = at;
+        table[5 * n] = at;
         let c = wide(s[at + 3]);
         let v = wide(s[at + 4 + c]);
         at = fill_variables(s, n, v, at + 5 + c, table);
@@ -69,7 +69,7 @@ pub fn kind_of(s: &[u8], table: &[usize], n: usize) -> u8
     requires { ⌜ NodeIn (now s) (now table) n ⌝ }
     ensures { λ r. ⌜ AtMost 1 (nodeAt (schemaOf (now (s .entry))) n .kind) r ⌝ }
 {
-    let at = table[n];
+    let at = table[5 * n];
     s[at + 2]
 }
 
@@ -78,7 +78,7 @@ pub fn successor_count(s: &[u8], table: &[usize], n: usize) -> usize
     requires { ⌜ NodeIn (now s) (now table) n ⌝ }
     ensures { λ r. ⌜ AtMost 8 (length (nodeAt (schemaOf (now (s .entry))) n .successors)) r ⌝ }
 {
-    let at = table[n];
+    let at = table[5 * n];
     wide(s[at + 3])
 }
 
@@ -88,7 +88,7 @@ pub fn successor_of(s: &[u8], table: &[usize], n: usize, j: usize) -> usize
     requires { ⌜ j < length (nodeAt (schemaOf (now s)) n .successors) ⌝ }
     ensures { λ r. ⌜ SuccessorIs (schemaOf (now (s .entry))) n j r ⌝ }
 {
-    let at = table[n];
+    let at = table[5 * n];
     wide(s[at + 4 + j])
 }
 
@@ -97,7 +97,7 @@ pub fn variable_count(s: &[u8], table: &[usize], n: usize) -> usize
     requires { ⌜ NodeIn (now s) (now table) n ⌝ }
     ensures { λ r. ⌜ AtMost 4 (length (nodeAt (schemaOf (now (s .entry))) n .variables)) r ⌝ }
 {
-    let at = table[n];
+    let at = table[5 * n];
     let c = wide(s[at + 3]);
     wide(s[at + 4 + c])
 }
@@ -108,7 +108,7 @@ pub fn variable_of(s: &[u8], table: &[usize], n: usize, k: usize) -> Variable
     requires { ⌜ k < length (nodeAt (schemaOf (now s)) n .variables) ⌝ }
     ensures { λ r. ⌜ r ≡ variableAt (schemaOf (now (s .entry))) n k ⌝ }
 {
-    let at = table[64 + 4 * n + k];
+    let at = table[5 * n + 1 + k];
     if s[at] == 0 {
         return Variable::Number {
             lo: fields::i32_at(s, at + 1),
@@ -124,7 +124,7 @@ pub fn is_number(s: &[u8], table: &[usize], n: usize, k: usize) -> bool
     requires { ⌜ k < length (nodeAt (schemaOf (now s)) n .variables) ⌝ }
     ensures { λ r. ⌜ r ≡ isNumber (variableAt (schemaOf (now (s .entry))) n k) ⌝ }
 {
-    let at = table[64 + 4 * n + k];
+    let at = table[5 * n + 1 + k];
     if s[at] == 0 {
         return true;
     }

@@ -505,12 +505,12 @@ fn reconcile_under(schema: &[u8], p: &[u8], a: u16, b: u16, out: &mut [u8]) -> A
 {
     let count = nodes::count_of(schema);
     if count <= 4 {
-        let mut table = [0usize; 80];
+        let mut table = [0usize; 20];
         let mut index = [0usize; 80];
         return reconcile_in(schema, count, p, a, b, &mut table, &mut index, out);
     }
     if count <= 16 {
-        let mut table = [0usize; 128];
+        let mut table = [0usize; 80];
         let mut index = [0usize; 272];
         return reconcile_in(schema, count, p, a, b, &mut table, &mut index, out);
     }

@@ -68,7 +68,7 @@ turning-under s n v p t₀ k at t f w h =
     go false e z = omega arith
 
 pub turning-more : (s : List ℕ) (n v p : ℕ) (t₀ : List ℕ) (k at : ℕ) (t : List ℕ) {w : ℕ} → Filling s n v p t₀ → Turning s n v p t₀ k at t → k < v
-    → w ≡ widthAt s at → Turning s n v p t₀ (k + 1) (at + w) (set t (64 + 4 * n + k) at)
+    → w ≡ widthAt s at → Turning s n v p t₀ (k + 1) (at + w) (set t (5 * n + 1 + k) at)
 unfolding fillVariables
 turning-more s n v p t₀ k at t {w} f m h e =
     let vs = variables-back s v p (f .read) in
@@ -78,11 +78,11 @@ turning-more s n v p t₀ k at t {w} f m h e =
     let d : drop k (variablesIn (variables s v p)) ≡ x ∷ drop (suc k) (variablesIn (variables s v p)) = drop-cons (variablesIn (variables s v p)) k noVariable (omega (arith, vs .size)) in
     record {
       upto = omega arith;
-      same = length-set t (64 + 4 * n + k) at ∙ m .same;
+      same = length-set t (5 * n + 1 + k) at ∙ m .same;
       place = z ∙ sym (o .end) ∙ ap (variablePlace p (variablesIn (variables s v p))) (sym (add-one k));
       rest =
-          ap (λ (q : ℕ). fillVariables n (k + 1) q (drop (k + 1) (variablesIn (variables s v p))) (set t (64 + 4 * n + k) at)) z
-          ∙ ap (λ (j : ℕ). fillVariables n (k + 1) (at + variableWidth x) (drop j (variablesIn (variables s v p))) (set t (64 + 4 * n + k) at)) (add-one k)
+          ap (λ (q : ℕ). fillVariables n (k + 1) q (drop (k + 1) (variablesIn (variables s v p))) (set t (5 * n + 1 + k) at)) z
+          ∙ ap (λ (j : ℕ). fillVariables n (k + 1) (at + variableWidth x) (drop j (variablesIn (variables s v p))) (set t (5 * n + 1 + k) at)) (add-one k)
           ∙ sym (ap (λ (l : List Variable). fillVariables n k at l t) d)
           ∙ m .rest;
     }
@@ -122,7 +122,7 @@ module _ (s t₀ : List ℕ) (n at : ℕ) (t : List ℕ) {count : ℕ} (a : Acce
   pub passing-links : {c : ℕ} → c ≡ getD s (at + 3) 0 → at + 5 + c ≤ length s
   passing-links k = omega (arith, here .inside, here .linked)
 
-  pub passing-filling : (x : ℕ) {c v : ℕ} → c ≡ getD s (at + 3) 0 → v ≡ getD s (at + 4 + c) 0 → Filling s n v (at + 5 + c) (set t n x)
+  pub passing-filling : (x : ℕ) {c v : ℕ} → c ≡ getD s (at + 3) 0 → v ≡ getD s (at + 4 + c) 0 → Filling s n v (at + 5 + c) (set t (5 * n) x)
   passing-filling x {c} {v} k l =
       let b : v ≡ length (nodeAt (schemaOf s) n .variables) = l ∙ ap (λ (i : ℕ). getD s (at + 4 + i) 0) (k ∙ sym (here .linked)) ∙ sym (here .varied) in
       let d : at + 5 + c ≡ at + bodyOf (nodeAt (schemaOf s) n) = omega (arith, here .linked) in
@@ -130,27 +130,27 @@ module _ (s t₀ : List ℕ) (n at : ℕ) (t : List ℕ) {count : ℕ} (a : Acce
       record {
         small = omega (arith, e .most);
         few = omega (arith, here .few-variables);
-        long = omega (arith, length-set t n x, m .same, o .long, here .few-variables, e .is);
+        long = omega (arith, length-set t (5 * n) x, m .same, o .long, here .few-variables, e .is);
         end = nodePlace 3 (schemaOf s) (suc n);
         read = r ∙ ap (λ (vs : List Variable). got vs (nodePlace 3 (schemaOf s) (suc n))) (sym (ap variablesIn r));
       }
 
-  pub passing-more : {c v r : ℕ} {after : List ℕ} → c ≡ getD s (at + 3) 0 → v ≡ getD s (at + 4 + c) 0 → Filled s n v (at + 5 + c) (set t n at) after r
+  pub passing-more : {c v r : ℕ} {after : List ℕ} → c ≡ getD s (at + 3) 0 → v ≡ getD s (at + 4 + c) 0 → Filled s n v (at + 5 + c) (set t (5 * n) at) after r
       → Passing s t₀ (n + 1) r after
   unfolding fillNodes nodeWidth
   passing-more {c} {v} {r} {after} k l f =
       let b : v ≡ length (nodeAt (schemaOf s) n .variables) = l ∙ ap (λ (i : ℕ). getD s (at + 4 + i) 0) (k ∙ sym (here .linked)) ∙ sym (here .varied) in
       let d : at + 5 + c ≡ at + bodyOf (nodeAt (schemaOf s) n) = omega (arith, here .linked) in
       let w : variablesIn (variables s v (at + 5 + c)) ≡ nodeAt (schemaOf s) n .variables = ap variablesIn (ap (λ (i : ℕ). variables s i (at + 5 + c)) b ∙ ap (variables s (length (nodeAt (schemaOf s) n .variables))) d ∙ here .vars) in
-      let ta : after ≡ fillVariables n 0 (at + bodyOf (nodeAt (schemaOf s) n)) (nodeAt (schemaOf s) n .variables) (set t n at) =
-      f .table ∙ ap (λ (q : ℕ). fillVariables n 0 q (variablesIn (variables s v (at + 5 + c))) (set t n at)) d
-      ∙ ap (λ (vs : List Variable). fillVariables n 0 (at + bodyOf (nodeAt (schemaOf s) n)) vs (set t n at)) w in
+      let ta : after ≡ fillVariables n 0 (at + bodyOf (nodeAt (schemaOf s) n)) (nodeAt (schemaOf s) n .variables) (set t (5 * n) at) =
+      f .table ∙ ap (λ (q : ℕ). fillVariables n 0 q (variablesIn (variables s v (at + 5 + c))) (set t (5 * n) at)) d
+      ∙ ap (λ (vs : List Variable). fillVariables n 0 (at + bodyOf (nodeAt (schemaOf s) n)) vs (set t (5 * n) at)) w in
       let re : r ≡ at + nodeWidth (nodeAt (schemaOf s) n) =
       f .end ∙ ap (λ (vs : List Variable). at + 5 + c + variablesWidth vs) w ∙ (let z : at + 5 + c + variablesWidth (nodeAt (schemaOf s) n .variables) ≡ at + (bodyOf (nodeAt (schemaOf s) n) + variablesWidth (nodeAt (schemaOf s) n .variables)) = omega arith in z) in
       let dr : drop n (schemaOf s) ≡ nodeAt (schemaOf s) n ∷ drop (suc n) (schemaOf s) = drop-cons (schemaOf s) n noNode (omega (arith, e .is)) in
       record {
         upto = omega (arith, e .is);
-        same = ap length ta ∙ variables-long n 0 (at + bodyOf (nodeAt (schemaOf s) n)) (nodeAt (schemaOf s) n .variables) (set t n at) ∙ length-set t n at ∙ m .same;
+        same = ap length ta ∙ variables-long n 0 (at + bodyOf (nodeAt (schemaOf s) n)) (nodeAt (schemaOf s) n .variables) (set t (5 * n) at) ∙ length-set t (5 * n) at ∙ m .same;
         place = re ∙ sym (here .end) ∙ ap (nodePlace 3 (schemaOf s)) (sym (add-one n));
         rest =
             ap (λ (q : ℕ). fillNodes (n + 1) q (drop (n + 1) (schemaOf s)) after) re
@@ -171,7 +171,7 @@ passing-done s t₀ n at t o e m h =
 
 -- ---- room for the table: zeros, enough of them for the nodes
 
-room : (s : List ℕ) (m : ℕ) → 64 + 4 * length (schemaOf s) ≤ m → Room s (replicate m 0)
+room : (s : List ℕ) (m : ℕ) → 5 * length (schemaOf s) ≤ m → Room s (replicate m 0)
 room s m h =
     let l = length-replicate {A = ℕ} m 0 in
     record { blank = ap (λ (i : ℕ). replicate i 0) (sym l); long = omega (arith, l) }
@@ -179,8 +179,8 @@ room s m h =
 pub room-64 : (s : List ℕ) → Accepted s → Room s (replicate 320 0)
 room-64 s a = room s 320 (omega (arith, file-of s (a .some) .few))
 
-pub room-4 : (s : List ℕ) {count : ℕ} → AtMost 64 (length (schemaOf s)) count → count ≤ 4 → Room s (replicate 80 0)
-room-4 s e h = room s 80 (omega (arith, e .is))
+pub room-4 : (s : List ℕ) {count : ℕ} → AtMost 64 (length (schemaOf s)) count → count ≤ 4 → Room s (replicate 20 0)
+room-4 s e h = room s 20 (omega (arith, e .is))
 
-pub room-16 : (s : List ℕ) {count : ℕ} → AtMost 64 (length (schemaOf s)) count → count ≤ 16 → Room s (replicate 128 0)
-room-16 s e h = room s 128 (omega (arith, e .is))
+pub room-16 : (s : List ℕ) {count : ℕ} → AtMost 64 (length (schemaOf s)) count → count ≤ 16 → Room s (replicate 80 0)
+room-16 s e h = room s 80 (omega (arith, e .is))

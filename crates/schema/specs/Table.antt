@@ -26,15 +26,15 @@ bodyOf x = 5 + length (x .successors)
 unfoldable pub nodeWidth : Node → ℕ
 nodeWidth x = bodyOf x + variablesWidth (x .variables)
 
--- place 64 + 4 n + k of the table: where variable k of node n begins
+-- place 5 n + 1 + k of the table: where variable k of node n begins
 unfoldable pub fillVariables : ℕ → ℕ → ℕ → List Variable → List ℕ → List ℕ
 fillVariables n k p [] t = t
-fillVariables n k p (v ∷ vs) t = fillVariables n (k + 1) (p + variableWidth v) vs (set t (64 + 4 * n + k) p)
+fillVariables n k p (v ∷ vs) t = fillVariables n (k + 1) (p + variableWidth v) vs (set t (5 * n + 1 + k) p)
 
--- place n of the table: where the record of node n begins
+-- place 5 n of the table: where the record of node n begins
 unfoldable pub fillNodes : ℕ → ℕ → List Node → List ℕ → List ℕ
 fillNodes n p [] t = t
-fillNodes n p (x ∷ xs) t = fillNodes (n + 1) (p + nodeWidth x) xs (fillVariables n 0 (p + bodyOf x) (x .variables) (set t n p))
+fillNodes n p (x ∷ xs) t = fillNodes (n + 1) (p + nodeWidth x) xs (fillVariables n 0 (p + bodyOf x) (x .variables) (set t (5 * n) p))
 
 -- a table of m places
 unfoldable pub tableOf : ℕ → List Node → List ℕ
@@ -52,7 +52,7 @@ variablesIn (bad n o) = []
 pub record Filling (s : List ℕ) (n v p : ℕ) (t : List ℕ) : Type 0 where
   pub small : n < 64
   pub few : v ≤ 4
-  pub long : 64 + 4 * n + v ≤ length t
+  pub long : 5 * n + 1 + v ≤ length t
   pub end : ℕ
   pub read : variables s v p ≡ got (variablesIn (variables s v p)) end
 
@@ -68,12 +68,12 @@ pub record Accepted (s : List ℕ) : Type 0 where
 -- t is the table of the file s; it may be longer than the nodes need
 pub record Tabled (s t : List ℕ) : Type 0 where
   pub filled : t ≡ tableOf (length t) (schemaOf s)
-  pub long : 64 + 4 * length (schemaOf s) ≤ length t
+  pub long : 5 * length (schemaOf s) ≤ length t
 
 -- room for the table of the file s, with nothing in it
 pub record Room (s t : List ℕ) : Type 0 where
   pub blank : t ≡ replicate (length t) 0
-  pub long : 64 + 4 * length (schemaOf s) ≤ length t
+  pub long : 5 * length (schemaOf s) ≤ length t
 
 -- t is the table of the file s, and n one of its nodes
 pub record NodeIn (s t : List ℕ) (n : ℕ) : Type 0 where

@@ -22,6 +22,9 @@ loop-holds c = search passing-none
 mul-table : tie.Need-mul-table Inv-loop μ-loop
 mul-table c = search needs
 
+mul-table-2 : tie.Need-mul-table-2 Inv-loop μ-loop
+mul-table-2 c = search needs
+
 slice-write-table : tie.Need-slice-write-table Inv-loop μ-loop
 slice-write-table c = search needs
 
@@ -79,6 +82,7 @@ fill-table-spec =
     count-of-requires
     loop-holds
     mul-table
+    mul-table-2
     slice-write-table
     add-wide
     shared-slice-read-wide

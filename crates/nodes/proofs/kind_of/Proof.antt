@@ -8,6 +8,9 @@ use Rattle.nodes.proofs.kind_of.Tie as tie
 mul-at : tie.Need-mul-at
 mul-at c = omega (arith, node-small)
 
+mul-at-2 : tie.Need-mul-at-2
+mul-at-2 c = omega (arith, node-small)
+
 shared-slice-read-at : tie.Need-shared-slice-read-at
 shared-slice-read-at c = omega (arith, node-room)
 
@@ -22,4 +25,4 @@ returns c = search kind-at
 
 pub kind-of-spec : {M : Type 1} → statement M
 kind-of-spec =
-    tie.close (tie.spec mul-at shared-slice-read-at add-result shared-slice-read-result returns)
+    tie.close (tie.spec mul-at mul-at-2 shared-slice-read-at add-result shared-slice-read-result returns)

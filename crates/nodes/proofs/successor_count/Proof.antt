@@ -9,6 +9,9 @@ use Rattle.nodes.proofs.successor_count.Tie as tie
 mul-at : tie.Need-mul-at
 mul-at c = omega (arith, node-small)
 
+mul-at-2 : tie.Need-mul-at-2
+mul-at-2 c = omega (arith, node-small)
+
 shared-slice-read-at : tie.Need-shared-slice-read-at
 shared-slice-read-at c = omega (arith, node-room)
 
@@ -27,4 +30,4 @@ returns c = search links-at
 pub successor-count-spec : {M : Type 1} → statement M
 successor-count-spec =
     tie.close
-    (tie.spec mul-at shared-slice-read-at add-wide shared-slice-read-wide wide-requires returns)
+    (tie.spec mul-at mul-at-2 shared-slice-read-at add-wide shared-slice-read-wide wide-requires returns)

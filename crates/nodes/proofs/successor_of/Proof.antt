@@ -9,6 +9,9 @@ use Rattle.nodes.proofs.successor_of.Tie as tie
 mul-at : tie.Need-mul-at
 mul-at c = omega (arith, node-small)
 
+mul-at-2 : tie.Need-mul-at-2
+mul-at-2 c = omega (arith, node-small)
+
 shared-slice-read-at : tie.Need-shared-slice-read-at
 shared-slice-read-at c = omega (arith, node-room)
 
@@ -32,6 +35,7 @@ successor-of-spec =
     tie.close
     (tie.spec
     mul-at
+    mul-at-2
     shared-slice-read-at
     add-wide
     add-wide-2

@@ -9,6 +9,9 @@ use Rattle.nodes.proofs.variable_count.Tie as tie
 mul-at : tie.Need-mul-at
 mul-at c = omega (arith, node-small)
 
+mul-at-2 : tie.Need-mul-at-2
+mul-at-2 c = omega (arith, node-small)
+
 shared-slice-read-at : tie.Need-shared-slice-read-at
 shared-slice-read-at c = omega (arith, node-room)
 
@@ -41,6 +44,7 @@ variable-count-spec =
     tie.close
     (tie.spec
     mul-at
+    mul-at-2
     shared-slice-read-at
     add-wide
     shared-slice-read-wide
