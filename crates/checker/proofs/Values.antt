@@ -3,9 +3,8 @@
 use mathlib.Core.Path.{_≡_, refl, ap, ap₂, sym, subst, _∙_}
 use mathlib.Core.Bool.{Bool, true, false, cond}
 use mathlib.Core.Option.{some}
-use Prim.Native.Nat.{ℕ, zero, suc, _+_, _≤_, _<_, _^_}
+use Prim.Native.Nat.{ℕ, _+_, _≤_, _<_, _^_}
 use native.Mathlib.Omega.{arith}
-use native.Mathlib.Nat.{add-zero, zero-add}
 use lib.ListN.{length, getD, drop, drop-of-length-le}
 use lib.IntN.{ℤ, pos}
 use lib.Signed.{leZ, mag}
@@ -22,16 +21,17 @@ use Rattle.schema.specs.Schema.{Node, schemaOf, nodeAt, noVariable, isNumber}
 use Rattle.schema.specs.Table.{AtMost}
 use Rattle.schema.specs.declared.Variable.{Variable}
 use Rattle.schema.specs.declared.Variable.the-variants.{Number, Listed}
-use Rattle.policies.specs.Policies.{Condition, mask, Policy, policiesOf}
+use Rattle.policies.specs.Policies.{mask, Policy, policiesOf}
 use Rattle.policies.specs.Pass.{forced}
 use Rattle.instances.specs.Instance.{inDomain}
 use Rattle.instances.specs.File.{valueWidth, valueOf, value, values}
 use Rattle.instances.proofs.Node.{vars-more}
 use Rattle.model.specs.Satisfaction.{admits, admitted}
-use Rattle.model.specs.Reconciling.{own, restrictAll, combined}
+use Rattle.model.specs.Reconciling.{combined}
 use Rattle.model.specs.Comparing.{forbiddenValue}
-use Rattle.model.proofs.Values.{combined-in, combined-at}
-use Rattle.conditions.specs.Held.{conditionIn, conditionsIn, Combined}
+use Rattle.model.proofs.Values.{combined-in}
+use Rattle.conditions.specs.Held.{conditionIn, recordOf}
+use Rattle.conditions.proofs.Held.{held-at}
 use Rattle.conditions.specs.declared.Conditions.{Conditions}
 use Rattle.checker.specs.Checks.{forbiddenIn, widthOf, admitsAt, valuesIn, ValuesThere}
 use Rattle.checker.specs.declared.Forbidden.{Forbidden}
@@ -89,27 +89,6 @@ admits-is : (c : Conditions) (k : ℕ) (v : Variable) (s : List ℕ) (p : ℕ) �
 unfolding admitsAt admits conditionIn valueOf valueWidth
 admits-is c k (Number lo hi) s p = refl
 admits-is c k (Listed size) s p = ap (bit (getD (c .mask) k 0)) (sym (be1 s p))
-
-condition-at : (c : Conditions) (j k : ℕ) (vs : List Variable) → k < length vs → getD (conditionsIn c j vs) k (mask 0) ≡ conditionIn c (getD vs k noVariable) (j + k)
-unfolding conditionsIn
-condition-at c j k [] h = absurd (omega arith)
-condition-at c j zero (v ∷ vs) h = ap (conditionIn c v) (sym (add-zero j))
-condition-at c j (suc k) (v ∷ vs) h = condition-at c (j + 1) k vs (omega arith) ∙ ap (conditionIn c (getD vs k noVariable)) (let z : j + 1 + k ≡ j + suc k = omega arith in z)
-
--- what place k of the combined conditions holds
-held-at : (schema p : List ℕ) (a b n k : ℕ) (c : Conditions) → Combined schema p a b n c → k < length (nodeAt (schemaOf schema) n .variables)
-    → conditionIn c (getD (nodeAt (schemaOf schema) n .variables) k noVariable) k
-    ≡ restrictAll (forced a b (policiesOf (schemaOf schema) p)) n k (own (getD (nodeAt (schemaOf schema) n .variables) k noVariable))
-unfolding combined
-held-at schema p a b n k c w h =
-    let vs = nodeAt (schemaOf schema) n .variables in
-    let v = getD vs k noVariable in
-    let ps = forced a b (policiesOf (schemaOf schema) p) in
-    ap (conditionIn c v) (sym (zero-add k))
-    ∙ sym (condition-at c 0 k vs h)
-    ∙ ap (λ (l : List Condition). getD l k (mask 0)) (w .holds)
-    ∙ combined-at ps n 0 k vs (mask 0) h
-    ∙ ap (λ (j : ℕ). restrictAll ps n j (own v)) (zero-add k)
 
 -- ---- a value that was read
 
@@ -210,13 +189,13 @@ module _ (schema pol : List ℕ) (a b n : ℕ) (s : List ℕ) {X : Forbidden} (k
   pub judging-fits : {r : ℕ} → length s < 2 ^ 64 → r ≡ widthOf number → Fits w64 (p + r)
   judging-fits f q = record { fits = omega (arith, judging-room) }
 
-  module _ (c : Conditions) {r : Bool} (cb : Combined schema pol a b n c) (q : r ≡ admitsAt c k number s p) where
+  module _ (c : Conditions) {r : Bool} (cb : c ≡ recordOf (combined (schemaOf schema) ps n)) (q : r ≡ admitsAt c k number s p) where
     admitted-is : r ≡ admitted ps n k var (this .x)
     admitted-is =
         q
         ∙ ap (λ (t : Bool). admitsAt c k t s p) e
         ∙ admits-is c k var s p
-        ∙ ap₂ (admits var) (held-at schema pol a b n k c cb (omega (arith, l .is))) (this .took .is)
+        ∙ ap₂ (admits var) (held-at (schemaOf schema) ps n cb (omega (arith, l .is, l .most)) k (omega (arith, l .is))) (this .took .is)
         ∙ combined-in n k var ps (this .x) (this .took .in-domain)
 
     pub judging-no : r ≡ false → At p ≡ X

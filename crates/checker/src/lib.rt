@@ -13,9 +13,10 @@ ghost use Rattle.instances.specs.Instance.{rightChoice};
 ghost use Rattle.instances.specs.File.{values};
 ghost use Rattle.lookup.specs.Lookup.{instanceOf, Readable};
 ghost use Rattle.model.specs.Satisfaction.{columnOf, choiceMeets};
+ghost use Rattle.model.specs.Reconciling.{combined};
 ghost use Rattle.model.specs.Comparing.{forbiddenValue, forbiddenEntry, forbidden};
 ghost use Rattle.calls.specs.Calls.{permitted, checkingInForce, checkingUnder, checking};
-ghost use Rattle.conditions.specs.Held.{InForce, Combined};
+ghost use Rattle.conditions.specs.Held.{InForce, recordOf};
 ghost use Rattle.checker.specs.Checks.{forbiddenIn, allowedColumn, choosing, widthOf, admitsAt, valuesIn, ValuesThere, entryIn, EntryThere};
 use conditions::Conditions;
 use fields::Answer;
@@ -145,7 +146,7 @@ fn conditions_of(
     requires { ⌜ NodeIn (now schema) (now table) n ⌝ }
     requires { ⌜ IndexIn (now schema) (now p) (now index) ⌝ }
     requires { ⌜ InForce (now schema) (now p) (now list) rows a b ⌝ }
-    ensures { λ r. ⌜ Combined (now (schema .entry)) (now (p .entry)) a b n r ⌝ }
+    ensures { λ r. ⌜ r ≡ recordOf (combined (schemaOf (now (schema .entry))) (forced a b (policiesOf (schemaOf (now (schema .entry))) (now (p .entry)))) n) ⌝ }
 {
     let mut places = [0usize; 16];
     conditions::find(schema, p, index, list, rows, a, b, n, &mut places);

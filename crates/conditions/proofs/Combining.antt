@@ -1,14 +1,13 @@
 -- The loop over a node's variables: the places below k hold the combined conditions.
 -- Rests on the laws of one place, in Held, and on what one variable's narrowing gives.
-use mathlib.Core.Path.{_≡_, ap, ap₂, sym, subst, _∙_}
+use mathlib.Core.Path.{_≡_, refl, ap, ap₂, sym, subst, _∙_}
 use mathlib.Core.Bool.{true, false}
 use mathlib.Core.List.{List, [], _∷_}
 use Prim.Native.Nat.{ℕ, zero, suc, _+_, _*_, _≤_, _<_, _^_}
 use native.Mathlib.Omega.{arith}
 use native.Mathlib.Nat.{add-zero, zero-add}
 use native.Mathlib.Numerals.{add-one}
-use native.Mathlib.Decide.{ℕ-discrete}
-use lib.ListN.{length, getD, set, length-replicate, replicate}
+use lib.ListN.{length, getD, set, replicate}
 use lib.IntN.{ℤ, pos}
 use lib.Signed.{mag}
 use mir.Syntax.{w32}
@@ -22,21 +21,23 @@ use Rattle.schema.specs.declared.Variable.{Variable}
 use Rattle.schema.specs.declared.Variable.the-variants.{Number, Listed}
 use Rattle.schema.proofs.Sound.{SoundVariable, SoundVariables}
 use Rattle.schema.proofs.Access.{here}
-use Rattle.policies.specs.Policies.{range, mask, Policy, rankCount, policiesOf}
+use Rattle.policies.specs.Policies.{Condition, range, mask, Policy, rankCount, policiesOf}
 use Rattle.policies.specs.Pass.{forced}
 use Rattle.policies.specs.Index.{span, spans, offsetOf}
 use Rattle.policies.proofs.Nodes.{spans-next}
-use Rattle.model.specs.Reconciling.{own, restrictAll, combined}
-use Rattle.conditions.specs.Held.{conditionIn, Combined}
+use Rattle.model.specs.Reconciling.{own, restrictAll, combinedFrom, combined}
+use Rattle.model.proofs.Values.{combined-at}
+use Rattle.conditions.specs.Held.{lowerOf, upperOf, maskOf, recordOf}
 use Rattle.conditions.specs.Places.{ConditionIn}
-use Rattle.conditions.proofs.Held.{held, Four, range-four, mask-four, range-same, mask-same, range-other, mask-other, held-all}
+use Rattle.conditions.proofs.Held.{Upto, upto-none, upto-set, upto-same, upto-done}
 
 pub record Combining (g : List Node) (qs : List Policy) (n k at : ℕ) (lo hi : List ℤ) (ms : List ℕ) : Type 0 where
   pub upto : k ≤ length (nodeAt g n .variables)
   pub place : at ≡ offsetOf (nodeAt g n) k
   pub small : at ≤ 8 + 8 * k
-  pub four : Four lo hi ms
-  pub each : (i : ℕ) → i < k → conditionIn (held lo hi ms) (getD (nodeAt g n .variables) i noVariable) i ≡ restrictAll qs n i (own (getD (nodeAt g n .variables) i noVariable))
+  pub lower : Upto lowerOf (combined g qs n) k lo
+  pub upper : Upto upperOf (combined g qs n) k hi
+  pub masks : Upto maskOf (combined g qs n) k ms
 
 pub combining-none : (g : List Node) (qs : List Policy) (n : ℕ) {at : ℕ} → AtMost 8 (rankCount (nodeAt g n)) at
     → Combining g qs n 0 at (replicate 4 (pos 0)) (replicate 4 (pos 0)) (replicate 4 0)
@@ -46,8 +47,9 @@ combining-none g qs n m =
       upto = omega arith;
       place = m .is ∙ sym (add-zero (rankCount (nodeAt g n)));
       small = omega (arith, m .most);
-      four = record { lo = length-replicate {A = ℤ} 4 (pos 0); hi = length-replicate {A = ℤ} 4 (pos 0); mask = length-replicate {A = ℕ} 4 0 };
-      each = λ i h. absurd (omega arith);
+      lower = upto-none lowerOf (combined g qs n);
+      upper = upto-none upperOf (combined g qs n);
+      masks = upto-none maskOf (combined g qs n);
     }
 
 -- ---- the variable whose turn it is
@@ -85,52 +87,37 @@ module _ (g : List Node) (qs : List Policy) (n k at : ℕ) (lo hi : List ℤ) (m
   pub mask-place : {size : ℕ} → x ≡ Listed size → ConditionIn g n k at false
   mask-place i = record { below = below; type = ap isNumber (sym e ∙ i); place = w .place }
 
-  record Turn (ls us : List ℤ) (ns : List ℕ) : Type 0 where
-    pub four : Four ls us ns
-    pub here : conditionIn (held ls us ns) (getD (nodeAt g n .variables) k noVariable) k ≡ restrictAll qs n k (own (getD (nodeAt g n .variables) k noVariable))
-    pub others : (i : ℕ) → i < k → (y : Variable) → conditionIn (held ls us ns) y i ≡ conditionIn (held lo hi ms) y i
+  -- its condition
+  this : {y z : Condition} → y ≡ restrictAll qs n k z → z ≡ own x → getD (combined g qs n) k (mask 0) ≡ y
+  unfolding combined
+  this d i =
+      combined-at qs n 0 k (nodeAt g n .variables) (mask 0) below
+      ∙ ap (λ (j : ℕ). restrictAll qs n j (own (getD (nodeAt g n .variables) k noVariable))) (zero-add k)
+      ∙ ap (restrictAll qs n k) (sym (i ∙ ap own e))
+      ∙ sym d
 
-  turned : {q : ℕ} {ls us : List ℤ} {ns : List ℕ} → Turn ls us ns → span (getD (nodeAt g n .variables) k noVariable) + at ≡ q → q ≤ at + 8 → Combining g qs n (k + 1) q ls us ns
-  turned {ls = ls} {us} {ns} t z s =
-      record {
-        upto = omega (arith, below);
-        place = sym z ∙ next;
-        small = omega (arith, w .small);
-        four = t .four;
-        each = λ i l. go i l (ℕ-discrete i k);
-      }
-    where
-      go : (i : ℕ) → i < k + 1 → Dec (i ≡ k) → conditionIn (held ls us ns) (getD (nodeAt g n .variables) i noVariable) i ≡ restrictAll qs n i (own (getD (nodeAt g n .variables) i noVariable))
-      go i l (yes y) = rw y (t .here)
-      go i l (no y) = t .others i (omega arith) (getD (nodeAt g n .variables) i noVariable) ∙ w .each i (omega arith)
+  turned : {q : ℕ} {ls us : List ℤ} {ns : List ℕ} → Upto lowerOf (combined g qs n) (k + 1) ls → Upto upperOf (combined g qs n) (k + 1) us → Upto maskOf (combined g qs n) (k + 1) ns
+      → span (getD (nodeAt g n .variables) k noVariable) + at ≡ q → q ≤ at + 8 → Combining g qs n (k + 1) q ls us ns
+  turned lower upper masks z s =
+      record { upto = omega (arith, below); place = sym z ∙ next; small = omega (arith, w .small); lower = lower; upper = upper; masks = masks }
 
-  pub combining-mask : {size all r : ℕ} → x ≡ Listed size → all ≡ ones size → mask r ≡ restrictAll qs n k (mask all) → Combining g qs n (k + 1) (at + 4) lo hi (set ms k r)
+  pub combining-mask : {size r : ℕ} → x ≡ Listed size → mask r ≡ restrictAll qs n k (mask (ones size)) → Combining g qs n (k + 1) (at + 4) lo hi (set ms k r)
   unfolding own span
-  combining-mask {size} {all} {r} i a d =
-      turned
-      (record {
-        four = mask-four lo hi ms k (w .four) r;
-        here =
-            mask-same lo hi ms k (w .four) r (getD (nodeAt g n .variables) k noVariable) (omega (arith, m .most)) (sym e ∙ i)
-            ∙ d
-            ∙ ap (restrictAll qs n k) (ap mask a ∙ ap own (sym i ∙ e));
-        others = λ j l y. mask-other lo hi ms k j (λ z. omega arith) r y;
-      })
+  combining-mask {size} {r} i d =
+      let c = this d (sym (ap own i)) in
+      turned (upto-same lowerOf (combined g qs n) k lo (w .lower) (sym (ap lowerOf c)))
+      (upto-same upperOf (combined g qs n) k hi (w .upper) (sym (ap upperOf c)))
+      (upto-set maskOf (combined g qs n) k ms (w .masks) r (omega (arith, m .most)) (sym (ap maskOf c)))
       (let z : span (getD (nodeAt g n .variables) k noVariable) ≡ 4 = ap span (sym e ∙ i) in omega arith)
       (omega arith)
 
   pub combining-range : {a b u v : ℤ} → x ≡ Number a b → range u v ≡ restrictAll qs n k (range a b) → Combining g qs n (k + 1) (at + 8) (set lo k u) (set hi k v) ms
   unfolding own span
   combining-range {a} {b} {u} {v} i d =
-      turned
-      (record {
-        four = range-four lo hi ms k (w .four) u v;
-        here =
-            range-same lo hi ms k (w .four) u v (getD (nodeAt g n .variables) k noVariable) (omega (arith, m .most)) (sym e ∙ i)
-            ∙ d
-            ∙ ap (restrictAll qs n k) (ap own (sym i ∙ e));
-        others = λ j l y. range-other lo hi ms k j (λ z. omega arith) u v y;
-      })
+      let c = this d (sym (ap own i)) in
+      turned (upto-set lowerOf (combined g qs n) k lo (w .lower) u (omega (arith, m .most)) (sym (ap lowerOf c)))
+      (upto-set upperOf (combined g qs n) k hi (w .upper) v (omega (arith, m .most)) (sym (ap upperOf c)))
+      (upto-same maskOf (combined g qs n) k ms (w .masks) (sym (ap maskOf c)))
       (let z : span (getD (nodeAt g n .variables) k noVariable) ≡ 8 = ap span (sym e ∙ i) in omega arith)
       (omega arith)
 
@@ -147,15 +134,18 @@ combining-bounds s t qs n k at lo hi ms {m} {x} {a} {b} {u} {v} w h y c l e i d 
     ∙ d
     ∙ ap (restrictAll qs n k) (ap₂ range (toZ-ofZ w32 a (f .0)) (toZ-ofZ w32 b (f .1))))
 
+combined-length : (qs : List Policy) (n k : ℕ) (vs : List Variable) → length (combinedFrom qs n k vs) ≡ length vs
+unfolding combinedFrom
+combined-length qs n k [] = refl
+combined-length qs n k (v ∷ vs) = ap suc (combined-length qs n (k + 1) vs)
+
 pub combining-done : (schema p : List ℕ) (a b n k at : ℕ) (lo hi : List ℤ) (ms : List ℕ) {v : ℕ}
     → Combining (schemaOf schema) (forced a b (policiesOf (schemaOf schema) p)) n k at lo hi ms → AtMost 4 (length (nodeAt (schemaOf schema) n .variables)) v → v ≤ k
-    → Combined schema p a b n (held lo hi ms)
-unfolding combined
+    → record { lo = lo; hi = hi; mask = ms } ≡ recordOf (combined (schemaOf schema) (forced a b (policiesOf (schemaOf schema) p)) n)
+unfolding recordOf combined
 combining-done schema p a b n k at lo hi ms w m h =
+    let g = schemaOf schema in
     let qs = forced a b (policiesOf (schemaOf schema) p) in
-    let vs = nodeAt (schemaOf schema) n .variables in
-    record {
-      holds = held-all (held lo hi ms) qs n 0 vs λ i l.
-          let z : 0 + i ≡ i = zero-add i in
-          rw z (w .each i (omega (arith, m .is)));
-    }
+    let cs = combined g qs n in
+    let z : length cs ≤ k = omega (arith, combined-length qs n 0 (nodeAt g n .variables), m .is) in
+    rw (upto-done lowerOf cs k lo (w .lower) z, upto-done upperOf cs k hi (w .upper) z, upto-done maskOf cs k ms (w .masks) z)

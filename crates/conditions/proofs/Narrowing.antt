@@ -6,9 +6,8 @@ use mathlib.Core.List.{List}
 use Prim.Native.Nat.{ℕ, _+_, _≤_, _<_, _^_}
 use native.Mathlib.Omega.{arith}
 use native.Mathlib.Numerals.{add-one}
-use native.Mathlib.Decide.{ℕ-discrete}
-use lib.ListN.{length, getD, set, drop, drop-of-length-le, length-set}
-use lib.Seq.{drop-cons, getD-set-same, getD-set-other}
+use lib.ListN.{length, getD, drop, drop-of-length-le}
+use lib.Seq.{drop-cons}
 use lib.Bits.{bitAnd}
 use lib.IntN.{ℤ}
 use lib.Signed.{mag}
@@ -16,15 +15,14 @@ use mir.Syntax.{w32, w64}
 use mir.Val.{Fits, toZ, ofZ, SFits}
 use mir.ValLaws.{toZ-ofZ}
 use Rattle.fields.specs.Reading.{be, signed}
+use Rattle.numbers.specs.Bits.{ones}
 use Rattle.numbers.specs.Signs.{maxZ, minZ}
 use Rattle.schema.specs.Schema.{schemaOf}
 use Rattle.policies.specs.Policies.{Condition, range, mask, Policy, noPolicy, policiesOf, policyAt}
 use Rattle.policies.specs.Pass.{forced}
-use Rattle.policies.specs.Index.{PolicyIn, policyOf, IndexIn}
 use Rattle.model.specs.Satisfaction.{conditionAt}
 use Rattle.model.specs.Reconciling.{both, restrict, restrictAll}
-use Rattle.conditions.specs.Held.{InForce}
-use Rattle.conditions.specs.Places.{SaidAt, Found, ConditionIn}
+use Rattle.conditions.specs.Places.{Found, ConditionIn}
 use Rattle.conditions.proofs.Said.{said-nothing, range-said, range-inside, mask-said, mask-inside}
 
 -- where a policy speaks of the node, there is room for the condition
@@ -58,6 +56,9 @@ pub record Narrowing (qs : List Policy) (n k : ℕ) (start : Condition) (r : ℕ
 
 pub narrowing-none : (qs : List Policy) (n k : ℕ) (c : Condition) → Narrowing qs n k c 0 c
 narrowing-none qs n k c = record { left = refl }
+
+pub narrowing-mask-none : (qs : List Policy) (n k size : ℕ) {m : ℕ} → m ≡ ones size → Narrowing qs n k (mask (ones size)) 0 (mask m)
+narrowing-mask-none qs n k size e = record { left = ap (λ (x : ℕ). restrictAll qs n k (mask x)) e }
 
 module _ (schema p : List ℕ) (a b n k rows : ℕ) (places : List ℕ) (start : Condition) (r : ℕ) (f : Found schema p a b n rows places) where
   abbrev qs : List Policy
@@ -117,28 +118,3 @@ pub narrowing-bounds : (schema p : List ℕ) (a b n k rows : ℕ) (places : List
 narrowing-bounds schema p a b n k rows places r lo hi {least = least} {most} f fl fm w h =
     narrowing-done schema p a b n k rows places (range (toZ w32 (ofZ w32 least)) (toZ w32 (ofZ w32 most))) r f w h
     ∙ ap (restrictAll (forced a b (policiesOf (schemaOf schema) p)) n k) (ap₂ range (toZ-ofZ w32 least fl) (toZ-ofZ w32 most fm))
-
--- ---- the rows
-
--- the first r rows tell where their policies speak
-pub record Finding (schema p : List ℕ) (a b n r : ℕ) (places : List ℕ) : Type 0 where
-  pub long : length places ≡ 16
-  pub each : (i : ℕ) → i < r → SaidAt (schemaOf schema) p (policyAt (forced a b (policiesOf (schemaOf schema) p)) i) n (getD places i 0)
-
-pub finding-none : (schema p : List ℕ) (a b n : ℕ) (places : List ℕ) → length places ≡ 16 → Finding schema p a b n 0 places
-finding-none schema p a b n places l = record { long = l; each = λ i h. absurd (omega arith) }
-
-module _ (schema p : List ℕ) (a b n : ℕ) (list : List ℕ) (rows : ℕ) (places : List ℕ) (r : ℕ) (f : InForce schema p list rows a b) (w : Finding schema p a b n r places) where
-  pub finding-policy : {index : List ℕ} → IndexIn schema p index → r < rows → PolicyIn schema p index (getD list r 0)
-  finding-policy e h = record { index = e; below = f .inside r h }
-
-  pub finding-more : {x : ℕ} → r < rows → SaidAt (schemaOf schema) p (policyOf schema p (getD list r 0)) n x → Finding schema p a b n (r + 1) (set places r x)
-  finding-more {x} h s = record { long = length-set places r x ∙ w .long; each = λ i l. go i l (ℕ-discrete i r) }
-    where
-      go : (i : ℕ) → i < r + 1 → Dec (i ≡ r) → SaidAt (schemaOf schema) p (policyAt (forced a b (policiesOf (schemaOf schema) p)) i) n (getD (set places r x) i 0)
-      go i l (yes e) =
-          rw (e, getD-set-same places r x 0 (omega (arith, w .long, f .few)), sym (f .is r h)) s
-      go i l (no e) = rw (getD-set-other places r i x 0 e) (w .each i (omega arith))
-
-  pub finding-done : rows ≤ r → Found schema p a b n rows places
-  finding-done h = record { rows-is = f .rows-is; few = omega (arith, f .few); each = λ i l. w .each i (omega arith) }

@@ -1,12 +1,15 @@
 -- Where a policy speaks of a node: found through the index, and what its conditions are there.
 -- Rests on where an accepted policy's rules stand in its stretch of the file, whose bytes are the file's.
 use mathlib.Core.Path.{_≡_, refl, ap, sym, subst, _∙_}
-use mathlib.Core.Bool.{Bool, true, false}
+use mathlib.Core.Bool.{Bool, true, false, cond}
 use mathlib.Core.List.{List}
 use mathlib.Core.Option.{Option, none, some}
 use Prim.Native.Nat.{ℕ, zero, suc, _+_, _*_, _^_, _≤_, _<_}
 use native.Mathlib.Omega.{arith}
 use native.Mathlib.Nat.{add-zero}
+use native.Mathlib.Decide.{ℕ-discrete}
+use borrow.Author.Tests.{eq-eqb, ne-eqb}
+use lib.Dec.{eqb}
 use lib.ListN.{length, getD, getElem?, drop, length-drop}
 use lib.Seq.{getD-drop}
 use mir.Syntax.{w64}
@@ -24,7 +27,7 @@ use Rattle.policies.proofs.Stands.{ConditionAt, ConditionsAt, none, more, condi
 use Rattle.policies.proofs.Nodes.{nodes-few}
 use Rattle.policies.proofs.Places.{Place, absent, present, row, head-in, rest}
 use Rattle.model.specs.Satisfaction.{conditionAt}
-use Rattle.conditions.specs.Places.{SaidAt, ConditionIn}
+use Rattle.conditions.specs.Places.{placeIn, SaidAt, ConditionIn}
 
 -- ---- conditions that stand somewhere are read there
 
@@ -84,7 +87,7 @@ module _ (schema p t : List ℕ) (j n : ℕ) (w : PolicyIn schema p t j) (below 
   nothing absent e = refl
   nothing (present a r) e = absurd (omega arith)
 
-  pub said-nowhere : at ≡ 0 → SaidAt (schemaOf schema) p (policyOf schema p j) n 0
+  said-nowhere : at ≡ 0 → SaidAt (schemaOf schema) p (policyOf schema p j) n 0
   said-nowhere e =
       record {
         silent = λ _. nothing here e;
@@ -121,7 +124,7 @@ module _ (schema p t : List ℕ) (j n : ℕ) (w : PolicyIn schema p t j) (below 
     pub said-fits : length p < 2 ^ 64 → Fits w64 (head + at)
     said-fits m = record { fits = omega (arith, said-inside) }
 
-    pub said-there : SaidAt (schemaOf schema) p (policyOf schema p j) n (head + at)
+    said-there : SaidAt (schemaOf schema) p (policyOf schema p j) n (head + at)
     unfolding rankOf conditionsOf
     said-there =
         let x = there here e in
@@ -136,6 +139,15 @@ module _ (schema p t : List ℕ) (j n : ℕ) (w : PolicyIn schema p t j) (below 
           end = c .0;
           conditions = λ _. ap (conditions p (nodeAt (schemaOf schema) n .variables)) (let z : head + at + rankCount (nodeAt (schemaOf schema) n) ≡ head + (at + rankCount (nodeAt (schemaOf schema) n)) = omega arith in z) ∙ c .1;
         }
+
+  -- the place that the index gives is where the policy speaks of the node
+  pub said-at : SaidAt (schemaOf schema) p (policyOf schema p j) n (placeIn t j n)
+  unfolding placeIn
+  said-at = go (ℕ-discrete at 0)
+    where
+      go : Dec (at ≡ 0) → SaidAt (schemaOf schema) p (policyOf schema p j) n (cond (eqb at 0) 0 (head + at))
+      go (yes e) = rw (eq-eqb at 0 e) (said-nowhere e)
+      go (no e) = rw (ne-eqb at 0 e) (said-there e)
 
 -- ---- the condition of one variable
 

@@ -1,19 +1,43 @@
--- 'The combined conditions of one node are one record': what its four places hold.
+-- 'The combined conditions of one node are one record', with four places for its variables.
 use Prim.Native.Nat.{ℕ, _+_, _<_}
 use mathlib.Core.Path.{_≡_}
 use mathlib.Core.List.{List, [], _∷_}
 use lib.ListN.{length, getD}
-use lib.IntN.{pos}
-use Rattle.schema.specs.Schema.{schemaOf, nodeAt}
+use lib.IntN.{ℤ, pos}
+use Rattle.schema.specs.Schema.{schemaOf}
 use Rattle.schema.specs.declared.Variable.{Variable}
 use Rattle.schema.specs.declared.Variable.the-variants.{Number, Listed}
 use Rattle.policies.specs.Policies.{Condition, range, mask, policiesOf, policyAt}
 use Rattle.policies.specs.Pass.{forced}
 use Rattle.policies.specs.Index.{policyOf}
-use Rattle.model.specs.Reconciling.{combined}
 use Rattle.conditions.specs.declared.Conditions.{Conditions}
 
--- variable v at place k: a number's range, a listed one's mask
+-- what each array has of a condition, 0 where the other kind has none
+abbrev pub lowerOf : Condition → ℤ
+lowerOf (range lo hi) = lo
+lowerOf (mask m) = pos 0
+
+abbrev pub upperOf : Condition → ℤ
+upperOf (range lo hi) = hi
+upperOf (mask m) = pos 0
+
+abbrev pub maskOf : Condition → ℕ
+maskOf (range lo hi) = 0
+maskOf (mask m) = m
+
+unfoldable pub four : {A : Type 0} → (ℕ → A) → List A
+four f = f 0 ∷ f 1 ∷ f 2 ∷ f 3 ∷ []
+
+-- the record of a node's conditions; a place without a variable has 0 throughout, as the empty mask
+unfoldable pub recordOf : List Condition → Conditions
+recordOf cs =
+    record {
+      lo = four λ k. lowerOf (getD cs k (mask 0));
+      hi = four λ k. upperOf (getD cs k (mask 0));
+      mask = four λ k. maskOf (getD cs k (mask 0));
+    }
+
+-- what the record holds of variable v at place k: a number's range, a listed one's mask
 unfoldable pub conditionIn : Conditions → Variable → ℕ → Condition
 conditionIn c (Number lo hi) k = range (getD (c .lo) k (pos 0)) (getD (c .hi) k (pos 0))
 conditionIn c (Listed size) k = mask (getD (c .mask) k 0)
@@ -29,7 +53,3 @@ pub record InForce (schema p list : List ℕ) (rows a b : ℕ) : Type 0 where
   pub few : rows < 17
   pub inside : (r : ℕ) → r < rows → getD list r 0 < length (policiesOf (schemaOf schema) p)
   pub is : (r : ℕ) → r < rows → policyOf schema p (getD list r 0) ≡ policyAt (forced a b (policiesOf (schemaOf schema) p)) r
-
--- r holds the combined conditions of node n
-pub record Combined (schema p : List ℕ) (a b n : ℕ) (r : Conditions) : Type 0 where
-  pub holds : conditionsIn r 0 (nodeAt (schemaOf schema) n .variables) ≡ combined (schemaOf schema) (forced a b (policiesOf (schemaOf schema) p)) n

@@ -1,16 +1,17 @@
 // The conditions of schema and policies in force on a node's variables, combined.
 ghost use mathlib.Core.Path.{_≡_};
 ghost use mathlib.Core.Bool.{true, false};
-ghost use Prim.Native.Nat.{_<_};
+ghost use Prim.Native.Nat.{_<_, _≤_};
 ghost use lib.ListN.{length};
+ghost use Rattle.numbers.specs.Bits.{ones};
 ghost use Rattle.schema.specs.Schema.{schemaOf};
 ghost use Rattle.schema.specs.Table.{NodeIn};
 ghost use Rattle.policies.specs.Policies.{range, mask, policiesOf};
 ghost use Rattle.policies.specs.Pass.{forced};
-ghost use Rattle.policies.specs.Index.{PolicyIn, policyOf, IndexIn};
-ghost use Rattle.model.specs.Reconciling.{restrictAll};
-ghost use Rattle.conditions.specs.Held.{InForce, Combined};
-ghost use Rattle.conditions.specs.Places.{SaidAt, Found, ConditionIn};
+ghost use Rattle.policies.specs.Index.{PolicyIn, IndexIn};
+ghost use Rattle.model.specs.Reconciling.{restrictAll, combined};
+ghost use Rattle.conditions.specs.Held.{InForce, recordOf};
+ghost use Rattle.conditions.specs.Places.{placeIn, found, Found, ConditionIn};
 use schema::Variable;
 
 // The combined conditions of one node: a range for a number, a mask for a listed variable, a place for each of four.
@@ -30,7 +31,7 @@ struct Range {
 fn place_of(schema: &[u8], p: &[u8], index: &[usize], j: usize, n: usize) -> usize
     requires { ⌜ PolicyIn (now schema) (now p) (now index) j ⌝ }
     requires { ⌜ n < length (schemaOf (now schema)) ⌝ }
-    ensures { λ r. ⌜ SaidAt (schemaOf (now (schema .entry))) (now (p .entry)) (policyOf (now (schema .entry)) (now (p .entry)) j) n r ⌝ }
+    ensures { λ r. ⌜ r ≡ placeIn (now (index .entry)) j n ⌝ }
 {
     let at = index[16 + 16 * n + j];
     if at == 0 {
@@ -55,7 +56,7 @@ pub fn find(
     requires { ⌜ InForce (now schema) (now p) (now list) rows a b ⌝ }
     requires { ⌜ n < length (schemaOf (now schema)) ⌝ }
     requires { ⌜ length (now places) ≡ 16 ⌝ }
-    ensures { λ _. ⌜ Found (now (schema .entry)) (now (p .entry)) a b n rows (now (places .exit)) ⌝ }
+    ensures { λ _. ⌜ now (places .exit) ≡ found (now (index .entry)) (now (list .entry)) n rows (now (places .entry)) ⌝ }
 {
     let mut r: usize = 0;
     while r < rows {
@@ -98,7 +99,7 @@ fn narrow_range(
     Range { lo, hi }
 }
 
-// The mask of node n's variable k, a listed one, narrowed by each policy in force.
+// The mask of node n's variable k, a listed one of so many values, narrowed by each policy in force.
 fn narrow_mask(
     schema: &[u8],
     p: &[u8],
@@ -109,13 +110,14 @@ fn narrow_mask(
     n: usize,
     k: usize,
     offset: usize,
-    all: u32,
+    size: u8,
 ) -> u32
     requires { ⌜ Found (now schema) (now p) a b n rows (now places) ⌝ }
     requires { ⌜ ConditionIn (schemaOf (now schema)) n k offset false ⌝ }
-    ensures { λ r. ⌜ mask r ≡ restrictAll (forced a b (policiesOf (schemaOf (now (schema .entry))) (now (p .entry)))) n k (mask all) ⌝ }
+    requires { ⌜ size ≤ 32 ⌝ }
+    ensures { λ r. ⌜ mask r ≡ restrictAll (forced a b (policiesOf (schemaOf (now (schema .entry))) (now (p .entry)))) n k (mask (ones size)) ⌝ }
 {
-    let mut m = all;
+    let mut m = numbers::all_values(size);
     let mut r: usize = 0;
     while r < rows {
         let at = places[r];
@@ -142,7 +144,7 @@ pub fn combine(
 ) -> Conditions
     requires { ⌜ NodeIn (now schema) (now table) n ⌝ }
     requires { ⌜ Found (now schema) (now p) a b n rows (now places) ⌝ }
-    ensures { λ r. ⌜ Combined (now (schema .entry)) (now (p .entry)) a b n r ⌝ }
+    ensures { λ r. ⌜ r ≡ recordOf (combined (schemaOf (now (schema .entry))) (forced a b (policiesOf (schemaOf (now (schema .entry))) (now (p .entry)))) n) ⌝ }
 {
     let v = nodes::variable_count(schema, table, n);
     let mut lo = [0i32; 4];
@@ -154,16 +156,14 @@ pub fn combine(
         match nodes::variable_of(schema, table, n, k) {
             Variable::Number { lo: l, hi: h } => {
                 let x = narrow_range(schema, p, places, rows, a, b, n, k, at, l, h);
-                let least = x.lo;
-                let most = x.hi;
-                lo[k] = least;
-                hi[k] = most;
+                let Range { lo: l, hi: h } = x;
+                lo[k] = l;
+                hi[k] = h;
                 at += 8;
                 k += 1;
             }
             Variable::Listed { size } => {
-                let all = numbers::all_values(size);
-                mask[k] = narrow_mask(schema, p, places, rows, a, b, n, k, at, all);
+                mask[k] = narrow_mask(schema, p, places, rows, a, b, n, k, at, size);
                 at += 4;
                 k += 1;
             }

@@ -15,13 +15,16 @@ use Rattle.fields.proofs.Tests.{and-true, never}
 use Rattle.schema.specs.Schema.{schemaOf, nodeAt}
 use Rattle.schema.specs.Table.{NodeIn, AtMost, SuccessorIs}
 use Rattle.schema.proofs.Accepted.{file-of}
-use Rattle.policies.specs.Policies.{rankCount}
+use Rattle.schema.proofs.Access.{here}
+use Rattle.policies.specs.Policies.{rankCount, policiesOf}
+use Rattle.policies.specs.Pass.{forced}
 use Rattle.instances.specs.Instance.{chooses}
 use Rattle.instances.specs.Plan.{valuesFrom}
 use Rattle.model.specs.Satisfaction.{every}
-use Rattle.model.specs.Reconciling.{isSome, leastEach, taken, canStep}
+use Rattle.model.specs.Reconciling.{combined, isSome, leastEach, taken, canStep}
 use Rattle.order.specs.Order.{inSet}
-use Rattle.conditions.specs.Held.{conditionsIn, Combined}
+use Rattle.conditions.specs.Held.{conditionsIn, recordOf}
+use Rattle.conditions.proofs.Held.{held-all}
 use Rattle.conditions.specs.declared.Conditions.{Conditions}
 use Rattle.reconciler.specs.Plan.{LeastIn, Columns, successorIn, Chosen, rulesIn, NodePlanned}
 use Rattle.reconciler.specs.declared.Plan.the-variants.{Unmet, Met, Take}
@@ -37,9 +40,9 @@ node-columns schema table n h m e q =
     let z = and-true (eqb (nodeAt (schemaOf schema) n .kind) 1) (ltb 0 (length (nodeAt (schemaOf schema) n .successors))) (sym e ∙ q) in
     record { below = h .below; is = m .is; ranked = m .is ∙ rw (z .0); most = m .most }
 
-module _ (schema table p : List ℕ) (a b n : ℕ) (nodes t₀ t : List ℕ) {c : Conditions} (h : NodeIn schema table n) (C : Combined schema p a b n c) where
+module _ (schema table p : List ℕ) (a b n : ℕ) (nodes t₀ t : List ℕ) {c : Conditions} (h : NodeIn schema table n) (C : c ≡ recordOf (combined (schemaOf schema) (forced a b (policiesOf (schemaOf schema) p)) n)) where
   least-same : leastEach (conditionsIn c 0 (nodeAt (schemaOf schema) n .variables)) ≡ rulesIn schema p a b .least n
-  least-same = ap leastEach (C .holds)
+  least-same = ap leastEach (held-all (schemaOf schema) (forced a b (policiesOf (schemaOf schema) p)) n C (here schema table n h .one .few-variables))
 
   unmet : LeastIn (schemaOf schema) n c t₀ t false ⊎ (LeastIn (schemaOf schema) n c t₀ t true)
       → false ≡ canStep (schemaOf schema) (rulesIn schema p a b) (inSet nodes) n → NodePlanned schema p a b n nodes t₀ t Unmet

@@ -1,6 +1,7 @@
 -- The places where the policies in force speak of the node, then what they say there.
--- Rests on the contracts of conditions alone.
+-- Rests on what find leaves, in Finding.
 use borrow.Author.Needs.{needs}
+use Rattle.conditions.proofs.Finding.{found-is}
 use Rattle.checker.proofs.conditions_of.Statement.{statement}
 use Rattle.checker.proofs.conditions_of.Tie as tie
 
@@ -8,7 +9,7 @@ find-requires : tie.Need-find-requires
 find-requires c κs = (search needs, (search needs, (search needs, search needs)))
 
 combine-requires : tie.Need-combine-requires
-combine-requires c κs = search needs
+combine-requires c κs = (search needs, found-is _ _ _ _ _ _ _ _ _ _ (c .before .before .before .before .before .before .before .pre .0) (c .before .before .before .before .before .before .before .pre .1 .0) (c .before .before .before .before .before .before .before .pre .1 .1) (search needs) (c .before .find .ensures))
 
 returns : tie.Need-returns
 returns c = search needs

@@ -60,11 +60,8 @@ loop-again c = search combining-bounds
 enum-known-size : tie.Need-enum-known-size Inv-loop μ-loop
 enum-known-size c = search needs
 
-all-values-requires : tie.Need-all-values-requires Inv-loop μ-loop
-all-values-requires c κs = search size-small
-
 narrow-mask-requires : tie.Need-narrow-mask-requires Inv-loop μ-loop
-narrow-mask-requires c κs = search (mask-place, needs)
+narrow-mask-requires c κs = (search needs, (search mask-place, search size-small))
 
 mul-mask : tie.Need-mul-mask Inv-loop μ-loop
 mul-mask c = search needs
@@ -108,7 +105,6 @@ combine-spec =
     loop-less
     loop-again
     enum-known-size
-    all-values-requires
     narrow-mask-requires
     mul-mask
     array-write-mask

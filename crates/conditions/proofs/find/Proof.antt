@@ -1,13 +1,13 @@
 -- The rows from here on are left.
--- Rests on the laws of a row, in Narrowing.
+-- Rests on the laws of a row, in Finding.
 use Prim.Native.Nat.{_-_}
-use Rattle.conditions.proofs.Narrowing.{Finding, finding-none, finding-policy, finding-more, finding-done}
+use Rattle.conditions.proofs.Finding.{Finding, finding-none, finding-policy, finding-more, finding-done}
 use borrow.Author.Needs.{needs}
 use Rattle.conditions.proofs.find.Statement.{statement}
 use Rattle.conditions.proofs.find.Tie as tie
 
 abbrev Inv-loop : tie.InvT-loop
-Inv-loop schema p index list rows a b n places₀ r₀ places r = Finding schema p a b n r places
+Inv-loop schema p index list rows a b n places₀ r₀ places r = Finding index list n rows r places₀ places
 
 abbrev μ-loop : tie.MeasureT-loop
 μ-loop schema p index list rows a b n places₀ r₀ places r = rows - r

@@ -1,22 +1,26 @@
 -- The policies from here on are left.
 -- Rests on the laws of a turn, in Narrowing.
 use Prim.Native.Nat.{_-_}
+use Rattle.numbers.specs.Bits.{ones}
 use Rattle.schema.specs.Schema.{schemaOf}
 use Rattle.policies.specs.Policies.{mask, policiesOf}
 use Rattle.policies.specs.Pass.{forced}
-use Rattle.conditions.proofs.Narrowing.{Narrowing, narrowing-none, narrowing-same, mask-room, mask-fits, narrowing-mask, narrowing-done}
+use Rattle.conditions.proofs.Narrowing.{Narrowing, narrowing-mask-none, narrowing-same, mask-room, mask-fits, narrowing-mask, narrowing-done}
 use borrow.Author.Needs.{needs}
 use Rattle.conditions.proofs.narrow_mask.Statement.{statement}
 use Rattle.conditions.proofs.narrow_mask.Tie as tie
 
 abbrev Inv-loop : tie.InvT-loop
-Inv-loop schema p places rows a b n k offset all m₀ r₀ m r = Narrowing (forced a b (policiesOf (schemaOf schema) p)) n k (mask all) r (mask m)
+Inv-loop schema p places rows a b n k offset size m₀ r₀ m r = Narrowing (forced a b (policiesOf (schemaOf schema) p)) n k (mask (ones size)) r (mask m)
 
 abbrev μ-loop : tie.MeasureT-loop
-μ-loop schema p places rows a b n k offset all m₀ r₀ m r = rows - r
+μ-loop schema p places rows a b n k offset size m₀ r₀ m r = rows - r
+
+all-values-requires : tie.Need-all-values-requires Inv-loop μ-loop
+all-values-requires c κs = search needs
 
 loop-holds : tie.Need-loop-holds Inv-loop μ-loop
-loop-holds c = search narrowing-none
+loop-holds c = search narrowing-mask-none
 
 mul-at : tie.Need-mul-at Inv-loop μ-loop
 mul-at c = search needs
@@ -57,6 +61,7 @@ narrow-mask-spec =
     (tie.spec
     Inv-loop
     μ-loop
+    all-values-requires
     loop-holds
     mul-at
     element-copy-out-at

@@ -1,9 +1,11 @@
 -- The head's place and the place from the head on.
 -- Rests on what the index holds of an accepted file, in Said.
 use borrow.Author.Needs.{needs}
+use Rattle.fields.proofs.Tests.{tests}
+use Rattle.conditions.specs.Places.{placeIn}
 use native.Mathlib.Omega.{arith}
 use Rattle.policies.proofs.Places.{policy-few, policy-long}
-use Rattle.conditions.proofs.Said.{node-few, said-nowhere, said-fits, said-there}
+use Rattle.conditions.proofs.Said.{node-few, said-fits}
 use Rattle.conditions.proofs.place_of.Statement.{statement}
 use Rattle.conditions.proofs.place_of.Tie as tie
 
@@ -23,7 +25,8 @@ shared-slice-read-at : tie.Need-shared-slice-read-at
 shared-slice-read-at c = omega (arith, policy-few, policy-long)
 
 returns : tie.Need-returns
-returns c = search said-nowhere
+unfolding placeIn
+returns c = search tests
 
 mul-result : tie.Need-mul-result
 mul-result c = omega (arith, policy-few)
@@ -35,7 +38,8 @@ add-result : tie.Need-add-result
 add-result c = search (said-fits, needs)
 
 returns-2 : tie.Need-returns-2
-returns-2 c = search said-there
+unfolding placeIn
+returns-2 c = search tests
 
 pub place-of-spec : {M : Type 1} → statement M
 place-of-spec =

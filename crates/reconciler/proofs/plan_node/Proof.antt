@@ -1,5 +1,6 @@
 -- The places are found, then the node is planned.
--- Rests on the two contracts alone.
+-- Rests on what find leaves, in Finding.
+use Rattle.conditions.proofs.Finding.{found-is}
 use Rattle.reconciler.proofs.Node.{node-below}
 use borrow.Author.Needs.{needs}
 use Rattle.reconciler.proofs.plan_node.Statement.{statement}
@@ -9,7 +10,7 @@ find-requires : tie.Need-find-requires
 find-requires c κs = (search needs, (search needs, (search node-below, search needs)))
 
 plan-at-requires : tie.Need-plan-at-requires
-plan-at-requires c κs = search needs
+plan-at-requires c κs = (search needs, (found-is _ _ _ _ _ _ _ _ _ _ (c .before .before .before .before .before .before .before .before .pre .0) (c .before .before .before .before .before .before .before .before .pre .1 .0) (c .before .before .before .before .before .before .before .before .pre .1 .1 .0) (search needs) (c .before .before .find .ensures), search needs))
 
 returns : tie.Need-returns
 returns c = search needs
