@@ -16,7 +16,7 @@ use Rattle.instances.specs.File.{reached, due, noneBelow, lowestDue, valueWidth
 use Rattle.instances.specs.Instance.{chooses, reaches, rightChoice, inDomain, has}
 use Rattle.instances.specs.Plan.{plannedFrom, planned, valuesFrom, planOf}
 use Rattle.model.specs.Comparing.{compared, forbiddenValue, forbiddenEntry, forbiddenFrom, forbidden}
-use Rattle.model.specs.Order.{betterBy, better, entryAt, within, goodStep, good, asGood}
+use Rattle.model.specs.Order.{betterBy, better, entryAt, within, goodChoice, goodAt, goodStep, good, asGood}
 use Rattle.model.specs.Reconciling.{best, taken, canStep, can, plan, reconcile, own, both, restrict, restrictAll, combinedFrom, combined, least, leastEach, reconciled}
 use Rattle.model.specs.Satisfaction.{columnOf, rank, conditionAt, admits, meets, allowed, admitted, choiceMeets}
 use Rattle.calls.specs.Calls.{given, reconcilingUnder, reconciling, permitted, checkingInForce, checkingUnder, checking, comparingInForce, comparingUnder, comparing}
@@ -100,7 +100,7 @@ pub record Cases : Type 0 where
   pub apart : comparing two-schema [] 1 1 first-instance second-instance ≡ success 3
 
 pub cases : Cases
-unfolding trailingZeros example-schema example-policies three four signed-schema signed-policies mask-schema mask-policies shared-schema shared-instance two-schema first-instance second-instance buffer judged judgedIn placed part be whole field mark many ended spell put bit ones with turned withAll successors links number listed variable variables variablesOf node nodes body schema schemaOf pass inForce forced positions rankCount ranks condition conditions ruleOf rule rules head policy onward policiesFrom policies policiesOf ruleFor rankOf conditionsOf reached due noneBelow lowestDue valueWidth valueOf value values entryOf entry entries instance encodeValue encodeValues encodeEntry encodeEntries encode chooses reaches rightChoice inDomain has plannedFrom planned valuesFrom planOf compared forbiddenValue forbiddenEntry forbiddenFrom forbidden betterBy better entryAt within goodStep good asGood best taken canStep can plan reconcile own both restrict restrictAll combinedFrom combined least leastEach reconciled columnOf rank conditionAt admits meets allowed admitted choiceMeets given reconcilingUnder reconciling permitted checking checkingUnder checkingInForce comparing comparingUnder comparingInForce
+unfolding trailingZeros example-schema example-policies three four signed-schema signed-policies mask-schema mask-policies shared-schema shared-instance two-schema first-instance second-instance buffer judged judgedIn placed part be whole field mark many ended spell put bit ones with turned withAll successors links number listed variable variables variablesOf node nodes body schema schemaOf pass inForce forced positions rankCount ranks condition conditions ruleOf rule rules head policy onward policiesFrom policies policiesOf ruleFor rankOf conditionsOf reached due noneBelow lowestDue valueWidth valueOf value values entryOf entry entries instance encodeValue encodeValues encodeEntry encodeEntries encode chooses reaches rightChoice inDomain has plannedFrom planned valuesFrom planOf compared forbiddenValue forbiddenEntry forbiddenFrom forbidden betterBy better entryAt within goodChoice goodAt goodStep good asGood best taken canStep can plan reconcile own both restrict restrictAll combinedFrom combined least leastEach reconciled columnOf rank conditionAt admits meets allowed admitted choiceMeets given reconcilingUnder reconciling permitted checking checkingUnder checkingInForce comparing comparingUnder comparingInForce
 cases =
     record {
       line-1 = refl;

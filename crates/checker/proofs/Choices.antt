@@ -1,11 +1,10 @@
--- A choice is judged by its column: the successors from here on are left to compare, the policies from here on to ask.
+-- A choice is judged by its column: the policies from here on are left to ask.
 -- Rests on what the accessors answer, and on the policies in force.
 use mathlib.Core.Path.{_≡_, refl, ap, sym, _∙_}
 use mathlib.Core.Bool.{Bool, true, false, cond, not, _&&_}
 use mathlib.Core.List.{List, [], _∷_}
 use Prim.Native.Nat.{ℕ, suc, _+_, _≤_, _<_}
 use native.Mathlib.Omega.{arith}
-use native.Mathlib.Nat.{zero-add}
 use native.Mathlib.Numerals.{add-one}
 use borrow.Author.Tests.{eqb-true, eq-eqb, ne-eqb}
 use lib.Dec.{eqb, ltb}
@@ -13,7 +12,7 @@ use lib.ListN.{length, getD, drop, drop-of-length-le}
 use lib.Seq.{drop-cons}
 use Rattle.fields.proofs.Tests.{and-true, never}
 use Rattle.schema.specs.Schema.{Node, schemaOf, nodeAt}
-use Rattle.schema.specs.Table.{NodeIn, AtMost, SuccessorIs}
+use Rattle.schema.specs.Table.{NodeIn, AtMost}
 use Rattle.policies.specs.Policies.{Policy, rankCount, rankOf, policiesOf, noPolicy}
 use Rattle.policies.specs.Pass.{forced}
 use Rattle.policies.specs.Index.{PolicyIn, RankIn, policyOf, IndexIn}
@@ -23,39 +22,6 @@ use Rattle.conditions.specs.Held.{InForce}
 use Rattle.checker.specs.Checks.{allowedColumn, choosing}
 
 -- ---- the column of a successor
-
--- what is left from place j on tells the column
-pub record Seeking (l : List ℕ) (x j : ℕ) : Type 0 where
-  pub upto : j ≤ length l
-  pub rest : j + columnOf x (drop j l) ≡ columnOf x l
-
-pub seeking-none : (l : List ℕ) (x : ℕ) → Seeking l x 0
-seeking-none l x = record { upto = omega arith; rest = zero-add (columnOf x l) }
-
-module _ (g : List Node) (n x j : ℕ) {c : ℕ} (w : Seeking (nodeAt g n .successors) x j) (m : AtMost 8 (length (nodeAt g n .successors)) c) where
-  abbrev l : List ℕ
-  l = nodeAt g n .successors
-
-  here : {y : ℕ} → j < c → SuccessorIs g n j y → drop j l ≡ y ∷ drop (j + 1) l
-  here h s = rw (add-one j) (drop-cons l j 0 (omega (arith, m .is)) ∙ ap (λ (z : ℕ). z ∷ drop (suc j) l) (sym (s .is)))
-
-  pub seeking-found : {y : ℕ} → j < c → SuccessorIs g n j y → y ≡ x → AtMost 8 (columnOf x l) j
-  unfolding columnOf
-  seeking-found {y} h s e =
-      let z : columnOf x (drop j l) ≡ 0 = ap (columnOf x) (here h s) ∙ ap (λ (t : Bool). cond t 0 (suc (columnOf x (drop (j + 1) l)))) (eq-eqb y x e) in
-      record { is = omega (arith, w .rest); most = omega (arith, m .most) }
-
-  pub seeking-more : {y : ℕ} → j < c → SuccessorIs g n j y → (y ≡ x → ⊥) → Seeking l x (j + 1)
-  unfolding columnOf
-  seeking-more {y} h s e =
-      let z : columnOf x (drop j l) ≡ suc (columnOf x (drop (j + 1) l)) = ap (columnOf x) (here h s) ∙ ap (λ (t : Bool). cond t 0 (suc (columnOf x (drop (j + 1) l)))) (ne-eqb y x e) in
-      record { upto = omega (arith, m .is); rest = omega (arith, w .rest) }
-
-  pub seeking-done : c ≤ j → AtMost 8 (columnOf x l) j
-  unfolding columnOf
-  seeking-done h =
-      let z : columnOf x (drop j l) ≡ 0 = ap (columnOf x) (drop-of-length-le l {i = j} (omega (arith, m .is))) in
-      record { is = omega (arith, w .rest); most = omega (arith, w .upto, m .is, m .most) }
 
 column-in : (x : ℕ) (l : List ℕ) → elem x l ≡ true → columnOf x l < length l
 unfolding columnOf

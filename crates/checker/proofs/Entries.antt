@@ -8,20 +8,18 @@ use Prim.Native.Nat.{ℕ, zero, suc, _+_, _-_, _≤_, _<_, _^_}
 use native.Mathlib.Omega.{arith}
 use lib.ListN.{length, getD, length-append}
 use lib.IntN.{ℤ}
-use lib.Signed.{mag}
 use mir.Syntax.{w64}
 use mir.Val.{Fits}
 use Rattle.fields.specs.Reading.{got, be}
-use Rattle.fields.specs.Writing.{unsigned}
 use Rattle.fields.proofs.Back.{went, chosen, after-mark, any-back, ended-back, be1}
-use Rattle.fields.proofs.Bytes.{Bytes, spell-length}
+use Rattle.fields.proofs.Bytes.{Bytes}
 use Rattle.schema.specs.Schema.{Node, schemaOf, nodeAt}
 use Rattle.schema.specs.Table.{Tabled, Accepted, NodeIn, AtMost}
 use Rattle.schema.specs.declared.Variable.{Variable}
-use Rattle.schema.specs.declared.Variable.the-variants.{Number, Listed}
 use Rattle.schema.proofs.Accepted.{sound}
 use Rattle.policies.specs.Policies.{Policy}
 use Rattle.instances.specs.Instance.{Entry, rightChoice}
+use Rattle.instances.proofs.Lengths.{value-width}
 use Rattle.instances.specs.File.{IH, due, noneBelow, valueWidth, values, entry, entries, instance, encodeValue, encodeValues, encodeEntry}
 use Rattle.lookup.specs.Lookup.{instanceOf, Readable, valuesWidth}
 use Rattle.instances.proofs.Lengths.{entry-length}
@@ -55,11 +53,6 @@ module _ (g : List Node) (ps : List Policy) (s : List ℕ) (p : ℕ) {c : Bool} 
 
 -- ---- where values end, and how long their encoding is
 
-value-length : (v : Variable) (x : ℤ) → length (encodeValue v x) ≡ valueWidth v
-unfolding encodeValue valueWidth
-value-length (Number lo hi) x = spell-length 4 (unsigned x)
-value-length (Listed size) x = spell-length 1 (mag x)
-
 record Ended (s : List ℕ) (vs : List Variable) (p : ℕ) (xs : List ℤ) (q : ℕ) : Type 0 where
   end : q ≡ p + valuesWidth vs
   long : length (encodeValues vs xs) ≡ valuesWidth vs
@@ -78,7 +71,7 @@ values-ended s (v ∷ vs) p {xs} {q} e =
     subst (λ (l : List ℤ). Ended s (v ∷ vs) p l q) (sym (t .is))
     (record {
       end = omega (arith, r .end);
-      long = omega (arith, length-append (encodeValue v (t .first)) (encodeValues vs (t .others)), value-length v (t .first), r .long);
+      long = omega (arith, length-append (encodeValue v (t .first)) (encodeValues vs (t .others)), value-width v (t .first), r .long);
       inside = λ h. r .inside i;
     })
 

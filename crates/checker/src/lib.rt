@@ -12,7 +12,7 @@ ghost use Rattle.policies.specs.Index.{IndexIn, Indexed, RankIn, IndexRoom};
 ghost use Rattle.instances.specs.Instance.{rightChoice};
 ghost use Rattle.instances.specs.File.{values};
 ghost use Rattle.lookup.specs.Lookup.{instanceOf, Readable};
-ghost use Rattle.model.specs.Satisfaction.{columnOf, choiceMeets};
+ghost use Rattle.model.specs.Satisfaction.{choiceMeets};
 ghost use Rattle.model.specs.Reconciling.{combined};
 ghost use Rattle.model.specs.Comparing.{forbiddenValue, forbiddenEntry, forbidden};
 ghost use Rattle.calls.specs.Calls.{permitted, checkingInForce, checkingUnder, checking};
@@ -27,22 +27,6 @@ use policy_reader::PoliciesRead;
 enum Forbidden {
     Nowhere,
     At { offset: usize },
-}
-
-// The place of x among node n's successors.
-fn column_of(schema: &[u8], table: &[usize], n: usize, x: usize) -> usize
-    requires { ⌜ NodeIn (now schema) (now table) n ⌝ }
-    ensures { λ r. ⌜ AtMost 8 (columnOf x (nodeAt (schemaOf (now (schema .entry))) n .successors)) r ⌝ }
-{
-    let c = nodes::successor_count(schema, table, n);
-    let mut j: usize = 0;
-    while j < c {
-        if nodes::successor_of(schema, table, n, j) == x {
-            return j;
-        }
-        j += 1;
-    }
-    j
 }
 
 // Whether no policy in force gives node n's successor k rank 255.
@@ -92,7 +76,7 @@ fn choice_allowed(
     ensures { λ r. ⌜ r ≡ choiceMeets (schemaOf (now (schema .entry))) (forced a b (policiesOf (schemaOf (now (schema .entry))) (now (p .entry)))) (choosing n x) ⌝ }
 {
     if instances::chooses(schema, table, n) {
-        let k = column_of(schema, table, n, x);
+        let k = order::column_of(schema, table, n, x);
         return column_allowed(schema, p, index, list, rows, a, b, n, k);
     }
     true

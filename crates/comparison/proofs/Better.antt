@@ -1,61 +1,30 @@
--- The order of two numbers at a node: their columns, the ranks there, and the first policy in force whose ranks differ.
+-- The order of two numbers at a node: the ranks in their columns, and the first policy in force whose ranks differ.
 -- Rests on what the accessors of schema and policies answer, and on sound policies for a column that no rank has.
 use mathlib.Core.Path.{_≡_, refl, ap, sym, _∙_}
-use mathlib.Core.Bool.{Bool, true, false, cond}
-use mathlib.Core.List.{List, [], _∷_}
-use Prim.Native.Nat.{ℕ, zero, suc, _+_, _≤_, _<_}
+use mathlib.Core.Bool.{true, false, cond}
+use mathlib.Core.List.{List, _∷_}
+use Prim.Native.Nat.{ℕ, suc, _+_, _≤_, _<_}
 use native.Mathlib.Omega.{arith}
 use native.Mathlib.Numerals.{add-one}
-use native.Mathlib.Nat.{zero-add}
 use borrow.Author.Tests.{lt-ltb, le-ltb, eq-eqb, ne-eqb}
 use lib.Dec.{eqb, ltb}
-use lib.ListN.{length, getD, drop, drop-of-length-le}
+use lib.ListN.{length, List·getD-eq-default, getD, drop, drop-of-length-le}
 use lib.Seq.{drop-cons}
 use Rattle.schema.specs.Schema.{Node, nodeAt, schemaOf}
-use Rattle.schema.specs.Table.{NodeIn, AtMost, SuccessorIs}
+use Rattle.schema.specs.Table.{NodeIn, AtMost}
 use Rattle.policies.specs.Policies.{Rule, Policy, rankCount, policiesOf, noPolicy, rankOf}
 use Rattle.policies.specs.Pass.{forced}
 use Rattle.policies.specs.Index.{PolicyIn, RankIn, policyOf}
 use Rattle.policies.proofs.Sound.{stood, Says, silent, speaks, says}
-use Rattle.instances.proofs.Node.{links, links-more, links-none}
 use Rattle.model.specs.Satisfaction.{columnOf, rank}
 use Rattle.model.specs.Order.{betterBy, better}
 use Rattle.comparison.specs.Comparison.{Ranking}
 
--- ---- the place of a number among a node's successors, from successor j on
-
-module _ (g : List Node) (n j : ℕ) {c : ℕ} where
-  pub column-found : {x y X : ℕ} → j + columnOf x (drop j (links g n)) ≡ X → AtMost 8 (length (links g n)) c → j < c → SuccessorIs g n j y → y ≡ x → j ≡ X
-  unfolding columnOf
-  column-found {x} {y} v l h e q =
-      let z : columnOf x (drop j (links g n)) ≡ 0 = ap (columnOf x) (links-more g n j l h e) ∙ ap (λ (b : Bool). cond b 0 (suc (columnOf x (drop (j + 1) (links g n))))) (eq-eqb y x q) in
-      omega arith
-
-  pub column-more : {x y X : ℕ} → j + columnOf x (drop j (links g n)) ≡ X → AtMost 8 (length (links g n)) c → j < c → SuccessorIs g n j y → (y ≡ x → ⊥)
-      → j + 1 + columnOf x (drop (j + 1) (links g n)) ≡ X
-  unfolding columnOf
-  column-more {x} {y} v l h e q =
-      let z : columnOf x (drop j (links g n)) ≡ suc (columnOf x (drop (j + 1) (links g n))) =
-      ap (columnOf x) (links-more g n j l h e) ∙ ap (λ (b : Bool). cond b 0 (suc (columnOf x (drop (j + 1) (links g n))))) (ne-eqb y x q) in
-      omega arith
-
-  pub column-done : (x : ℕ) {X : ℕ} → j + columnOf x (drop j (links g n)) ≡ X → AtMost 8 (length (links g n)) c → c ≤ j → j ≡ X
-  unfolding columnOf
-  column-done x v l h = let z : columnOf x (drop j (links g n)) ≡ 0 = ap (columnOf x) (links-none g n j l h) in omega arith
-
-pub column-start : (g : List Node) (n x : ℕ) → 0 + columnOf x (drop 0 (links g n)) ≡ columnOf x (links g n)
-column-start g n x = zero-add (columnOf x (links g n))
-
 -- ---- the rank in a column
-
-beyond : (l : List ℕ) (k : ℕ) → length l ≤ k → 0 ≡ getD l k 0
-beyond [] k h = refl
-beyond (x ∷ l) zero h = absurd (omega arith)
-beyond (x ∷ l) (suc k) h = beyond l k (omega arith)
 
 rule-beyond : (g : List Node) (n k : ℕ) {x : Rule} → Says g n x → rankCount (nodeAt g n) ≤ k → 0 ≡ getD (x .ranks) k 0
 rule-beyond g n k silent h = refl
-rule-beyond g n k (speaks {x = x} e w) h = beyond (x .ranks) k (let z : length (x .ranks) ≡ rankCount (nodeAt g n) = w .ranks ∙ ap (λ (m : ℕ). rankCount (nodeAt g m)) e in omega arith)
+rule-beyond g n k (speaks {x = x} e w) h = sym (List·getD-eq-default (x .ranks) 0 {n = k} (let z : length (x .ranks) ≡ rankCount (nodeAt g n) = w .ranks ∙ ap (λ (m : ℕ). rankCount (nodeAt g m)) e in omega arith))
 
 module _ (schema table p t : List ℕ) (j n k : ℕ) {c : ℕ} (l : AtMost 8 (rankCount (nodeAt (schemaOf schema) n)) c) where
   pub rank-inside : NodeIn schema table n → k < c → RankIn schema n k
@@ -97,16 +66,16 @@ module _ (schema p index list : List ℕ) (a b n x y r : ℕ) where
   rows-more : {rows : ℕ} → Ranking schema p index list rows a b → r < rows → drop r ps ≡ q ∷ drop (r + 1) ps
   rows-more w h = rw (add-one r) (drop-cons ps r noPolicy (omega (arith, w .in-force .rows-is)) ∙ ap (λ (z : Policy). z ∷ drop (suc r) ps) (sym (w .in-force .is r h)))
 
-  module _ {rows : ℕ} (i : Deciding g ps n x y r) (w : Ranking schema p index list rows a b) (h : r < rows) {c d s t : ℕ} (cx : c ≡ columnOf x (links g n)) (cy : d ≡ columnOf y (links g n))
+  module _ {rows : ℕ} (i : Deciding g ps n x y r) (w : Ranking schema p index list rows a b) (h : r < rows) {c d s t : ℕ} (cx : AtMost 8 (columnOf x (nodeAt g n .successors)) c) (cy : AtMost 8 (columnOf y (nodeAt g n .successors)) d)
       (sx : s ≡ rankOf q n c) (ty : t ≡ rankOf q n d) where
     -- the two ranks that were found
     at-x : ranks q x ≡ s
     unfolding rank
-    at-x = ap (rankOf q n) (sym cx) ∙ sym sx
+    at-x = ap (rankOf q n) (sym (cx .is)) ∙ sym sx
 
     at-y : ranks q y ≡ t
     unfolding rank
-    at-y = ap (rankOf q n) (sym cy) ∙ sym ty
+    at-y = ap (rankOf q n) (sym (cy .is)) ∙ sym ty
 
     step : betterBy ranks (drop r ps) x y ≡ cond (eqb (ranks q x) (ranks q y)) (betterBy ranks (drop (r + 1) ps) x y) (ltb (ranks q x) (ranks q y))
     unfolding betterBy

@@ -1,12 +1,12 @@
 -- The pass over the nodes from the highest to 0: from node n up, the flags of the nodes that the first instance reaches are right.
 -- Rests on `good-by-table` of the model: a table that is right above a node gives what is right at it.
 use mathlib.Core.Path.{_≡_, refl, ap, ap₂, sym, subst, _∙_}
-use mathlib.Core.Bool.{Bool, true, false, cond, _&&_}
+use mathlib.Core.Bool.{Bool, true, false, cond}
 use mathlib.Core.List.{List}
 use Prim.Native.Nat.{ℕ, _-_, _≤_, _<_}
 use native.Mathlib.Omega.{arith}
 use native.Mathlib.Decide.{decLt}
-use lib.Dec.{eqb, ltb}
+use lib.Dec.{eqb}
 use lib.ListN.{length, getD, set, replicate, length-set, length-replicate}
 use lib.Seq.{getD-set-same, getD-set-other}
 use Rattle.fields.proofs.Bytes.{Bytes}
@@ -21,11 +21,10 @@ use Rattle.lookup.specs.Lookup.{instanceOf, Readable, choicesOf}
 use Rattle.instances.proofs.IsInstance.{Reached, root, Ascending, IsInstance}
 use Rattle.lookup.proofs.Lookup.{choice-at, choice-none}
 use Rattle.instances.proofs.RoundTrip.{read-is, reached-below}
-use Rattle.model.specs.Order.{choiceOf, choiceAt, better, goodStep, good, asGood}
+use Rattle.model.specs.Order.{choiceOf, choiceAt, better, goodAt, goodStep, good, asGood}
+use Rattle.order.specs.Order.{inSet}
 use Rattle.model.proofs.Entries.{Found, found, missing, lookup}
 use Rattle.model.proofs.Order.{good-by-table}
-use Rattle.comparison.specs.Comparison.{flagged, byChoice, byNode}
-use Rattle.comparison.proofs.Good.{flag-at}
 
 -- the table of choices holds the choice at each node
 choice-is : (i : List Entry) → Ascending i → (n : ℕ) → n < 64 → getD (choicesOf i) n 0 ≡ choiceAt i n
@@ -35,11 +34,6 @@ choice-is i a n h = go (lookup i a n)
     go (found e m q t) = ap (λ (k : ℕ). getD (choicesOf i) k 0) (sym q) ∙ choice-at i a e m (omega arith) ∙ sym (ap choiceOf t)
     go (missing q t) = choice-none i n h q ∙ sym (ap choiceOf t)
 
--- the model's step, by the choices
-step-is : (g : List Node) (better : ℕ → ℕ → ℕ → Bool) (i j : List Entry) (h : ℕ → Bool) (n : ℕ) → byNode g better h n (choiceAt i n) (choiceAt j n) ≡ goodStep g better i j h n
-unfolding byNode byChoice goodStep
-step-is g better i j h n = refl
-
 pub record Flagging (schema p s t : List ℕ) (a b : ℕ) (flags : List ℕ) (n : ℕ) : Type 0 where
   pub sound : Sound (schemaOf schema)
   pub first : IsInstance (schemaOf schema) (instanceOf (schemaOf schema) s)
@@ -47,7 +41,7 @@ pub record Flagging (schema p s t : List ℕ) (a b : ℕ) (flags : List ℕ) (n 
   pub below : n ≤ length (schemaOf schema)
   pub long : length flags ≡ 64
   pub right : (m : ℕ) → n ≤ m → Reached (schemaOf schema) (instanceOf (schemaOf schema) s) m
-      → flagged flags m ≡ good (schemaOf schema) (better (schemaOf schema) (forced a b (policiesOf (schemaOf schema) p))) (instanceOf (schemaOf schema) s) (instanceOf (schemaOf schema) t) m
+      → inSet flags m ≡ good (schemaOf schema) (better (schemaOf schema) (forced a b (policiesOf (schemaOf schema) p))) (instanceOf (schemaOf schema) s) (instanceOf (schemaOf schema) t) m
 
 module _ (schema p s t : List ℕ) (a b : ℕ) where
   abbrev g : List Node
@@ -84,39 +78,37 @@ module _ (schema p s t : List ℕ) (a b : ℕ) where
     flagging-small h = let z = w .below in let y = w .sound .few in omega arith
 
     module _ (h : 0 < n) {first second : List ℕ} (x : first ≡ choicesOf i) (y : second ≡ choicesOf j) {r : Bool}
-        (e : r ≡ byNode g (better g ps) (flagged flags) (n - 1) (getD first (n - 1) 0) (getD second (n - 1) 0)) where
+        (e : r ≡ goodAt g (better g ps) (inSet flags) (n - 1) (getD first (n - 1) 0) (getD second (n - 1) 0)) where
       here : Reached g i (n - 1) → r ≡ good g (better g ps) i j (n - 1)
+      unfolding goodStep
       here v =
           e
-          ∙ ap₂ (byNode g (better g ps) (flagged flags) (n - 1))
+          ∙ ap₂ (goodAt g (better g ps) (inSet flags) (n - 1))
           (ap (λ (l : List ℕ). getD l (n - 1) 0) x ∙ choice-is i (w .first .ascending) (n - 1) (flagging-small h))
           (ap (λ (l : List ℕ). getD l (n - 1) 0) y ∙ choice-is j (w .second .ascending) (n - 1) (flagging-small h))
-          ∙ step-is g (better g ps) i j (flagged flags) (n - 1)
-          ∙ good-by-table g (better g ps) (w .sound) i j (w .first) (flagged flags) (n - 1) v (λ m k u. w .right m (omega arith) u)
+          ∙ good-by-table g (better g ps) (w .sound) i j (w .first) (inSet flags) (n - 1) v (λ m k u. w .right m (omega arith) u)
 
       module _ {f : ℕ} (k : f ≡ cond r 1 0) where
-        at-node : flagged (set flags (n - 1) f) (n - 1) ≡ r
+        at-node : inSet (set flags (n - 1) f) (n - 1) ≡ r
         at-node =
-            sym (flag-at (set flags (n - 1) f) (n - 1) (flagging-small h))
-            ∙ ap (λ (z : ℕ). eqb z 1) (getD-set-same flags (n - 1) f 0 (let z = w .long in let y = flagging-small h in omega arith) ∙ k)
+            ap (λ (z : ℕ). eqb z 1) (getD-set-same flags (n - 1) f 0 (let z = w .long in let y = flagging-small h in omega arith) ∙ k)
             ∙ go r
           where
             go : (b : Bool) → eqb (cond b 1 0) 1 ≡ b
             go true = refl
             go false = refl
 
-        at-other : (m : ℕ) → n - 1 < m → flagged (set flags (n - 1) f) m ≡ flagged flags m
-        unfolding flagged
-        at-other m l = ap (λ (z : ℕ). ltb m 64 && eqb z 1) (getD-set-other flags (n - 1) m f 0 (λ q. omega arith))
+        at-other : (m : ℕ) → n - 1 < m → inSet (set flags (n - 1) f) m ≡ inSet flags m
+        at-other m l = ap (λ (z : ℕ). eqb z 1) (getD-set-other flags (n - 1) m f 0 (λ q. omega arith))
 
-        right-now : (m : ℕ) → n - 1 ≤ m → Reached g i m → flagged (set flags (n - 1) f) m ≡ good g (better g ps) i j m
+        right-now : (m : ℕ) → n - 1 ≤ m → Reached g i m → inSet (set flags (n - 1) f) m ≡ good g (better g ps) i j m
         right-now m l v = go (decLt (n - 1) m)
           where
-            go : Dec (n - 1 < m) → flagged (set flags (n - 1) f) m ≡ good g (better g ps) i j m
+            go : Dec (n - 1 < m) → inSet (set flags (n - 1) f) m ≡ good g (better g ps) i j m
             go (yes o) = at-other m o ∙ w .right m (omega arith) v
             go (no o) =
                 let z : n - 1 ≡ m = omega arith in
-                subst (λ (q : ℕ). flagged (set flags (n - 1) f) q ≡ good g (better g ps) i j q) z (at-node ∙ here (subst (Reached g i) (sym z) v))
+                subst (λ (q : ℕ). inSet (set flags (n - 1) f) q ≡ good g (better g ps) i j q) z (at-node ∙ here (subst (Reached g i) (sym z) v))
 
         pub flagging-more : Flagging schema p s t a b (set flags (n - 1) f) (n - 1)
         flagging-more =
@@ -129,6 +121,9 @@ module _ (schema p s t : List ℕ) (a b : ℕ) where
               right = right-now;
             }
 
+    pub flagging-long : length flags ≡ 64
+    flagging-long = w .long
+
     pub flagging-done : n ≤ 0 → eqb (getD flags 0 0) 1 ≡ asGood g ps i j
     unfolding asGood
-    flagging-done h = flag-at flags 0 (omega arith) ∙ w .right 0 h root
+    flagging-done h = w .right 0 h root

@@ -2,36 +2,20 @@
 ghost use mathlib.Core.Path.{_≡_};
 ghost use mathlib.Core.Bool.{cond};
 ghost use lib.ListN.{length, getD};
-ghost use Rattle.schema.specs.Schema.{schemaOf, nodeAt};
+ghost use Rattle.schema.specs.Schema.{schemaOf};
 ghost use Rattle.schema.specs.Table.{Tabled, Accepted, NodeIn, AtMost, Room};
 ghost use Rattle.policies.specs.Policies.{policiesOf, rankOf};
 ghost use Rattle.policies.specs.Pass.{forced};
 ghost use Rattle.policies.specs.Index.{PolicyIn, Indexed, IndexRoom, policyOf};
 ghost use Rattle.lookup.specs.Lookup.{instanceOf, Readable};
-ghost use Rattle.model.specs.Satisfaction.{columnOf, every};
-ghost use Rattle.model.specs.Order.{better, asGood};
+ghost use Rattle.model.specs.Order.{better, goodChoice, goodAt, asGood};
 ghost use Rattle.model.specs.Comparing.{verdict, compared};
+ghost use Rattle.order.specs.Order.{inSet};
 ghost use Rattle.calls.specs.Calls.{comparingInForce, comparingUnder, comparing};
-ghost use Rattle.comparison.specs.Comparison.{Ranking, flagged, byChoice, byNode};
+ghost use Rattle.comparison.specs.Comparison.{Ranking};
 use fields::Answer;
 use fields::Step;
 use policy_reader::PoliciesRead;
-
-// The place of x among node n's successors, their number where it is none of them.
-fn column_of(schema: &[u8], table: &[usize], n: usize, x: usize) -> usize
-    requires { ⌜ NodeIn (now schema) (now table) n ⌝ }
-    ensures { λ r. ⌜ r ≡ columnOf x (nodeAt (schemaOf (now (schema .entry))) n .successors) ⌝ }
-{
-    let c = nodes::successor_count(schema, table, n);
-    let mut j: usize = 0;
-    while j < c {
-        if nodes::successor_of(schema, table, n, j) == x {
-            return j;
-        }
-        j += 1;
-    }
-    j
-}
 
 // Policy j's rank in column k of node n, 0 where there is no such column.
 fn rank_at(
@@ -71,8 +55,8 @@ fn is_better(
     requires { ⌜ Ranking (now schema) (now p) (now index) (now list) rows a b ⌝ }
     ensures { λ r. ⌜ r ≡ better (schemaOf (now (schema .entry))) (forced a b (policiesOf (schemaOf (now (schema .entry))) (now (p .entry)))) n x y ⌝ }
 {
-    let c = column_of(schema, table, n, x);
-    let d = column_of(schema, table, n, y);
+    let c = order::column_of(schema, table, n, x);
+    let d = order::column_of(schema, table, n, y);
     let mut r: usize = 0;
     while r < rows {
         let s = rank_at(schema, table, p, index, list[r], n, c);
@@ -88,26 +72,10 @@ fn is_better(
     x < y
 }
 
-// Whether every successor of node n is flagged.
-fn all_flagged(schema: &[u8], table: &[usize], n: usize, flags: &[u8; 64]) -> bool
-    requires { ⌜ NodeIn (now schema) (now table) n ⌝ }
-    ensures { λ r. ⌜ r ≡ every (flagged (now (flags .entry))) (nodeAt (schemaOf (now (schema .entry))) n .successors) ⌝ }
-{
-    let c = nodes::successor_count(schema, table, n);
-    let mut j: usize = 0;
-    while j < c {
-        let s = nodes::successor_of(schema, table, n, j);
-        if flags[s] != 1 {
-            return false;
-        }
-        j += 1;
-    }
-    true
-}
-
 // Whether node s is flagged; a number above all nodes is not.
 fn is_flagged(flags: &[u8; 64], s: usize) -> bool
-    ensures { λ r. ⌜ r ≡ flagged (now (flags .entry)) s ⌝ }
+    requires { ⌜ length (now flags) ≡ 64 ⌝ }
+    ensures { λ r. ⌜ r ≡ inSet (now (flags .entry)) s ⌝ }
 {
     if s < 64 {
         return flags[s] == 1;
@@ -132,7 +100,8 @@ fn is_good_choice(
 ) -> bool
     requires { ⌜ NodeIn (now schema) (now table) n ⌝ }
     requires { ⌜ Ranking (now schema) (now p) (now index) (now list) rows a b ⌝ }
-    ensures { λ r. ⌜ r ≡ byChoice (better (schemaOf (now (schema .entry))) (forced a b (policiesOf (schemaOf (now (schema .entry))) (now (p .entry))))) (flagged (now (flags .entry))) n x y ⌝ }
+    requires { ⌜ length (now flags) ≡ 64 ⌝ }
+    ensures { λ r. ⌜ r ≡ goodChoice (better (schemaOf (now (schema .entry))) (forced a b (policiesOf (schemaOf (now (schema .entry))) (now (p .entry))))) (inSet (now (flags .entry))) n x y ⌝ }
 {
     if x == y {
         return is_flagged(flags, x);
@@ -163,14 +132,15 @@ fn is_good(
 ) -> bool
     requires { ⌜ NodeIn (now schema) (now table) n ⌝ }
     requires { ⌜ Ranking (now schema) (now p) (now index) (now list) rows a b ⌝ }
-    ensures { λ r. ⌜ r ≡ byNode (schemaOf (now (schema .entry))) (better (schemaOf (now (schema .entry))) (forced a b (policiesOf (schemaOf (now (schema .entry))) (now (p .entry))))) (flagged (now (flags .entry))) n (getD (now (first .entry)) n 0) (getD (now (second .entry)) n 0) ⌝ }
+    requires { ⌜ length (now flags) ≡ 64 ⌝ }
+    ensures { λ r. ⌜ r ≡ goodAt (schemaOf (now (schema .entry))) (better (schemaOf (now (schema .entry))) (forced a b (policiesOf (schemaOf (now (schema .entry))) (now (p .entry))))) (inSet (now (flags .entry))) n (getD (now (first .entry)) n 0) (getD (now (second .entry)) n 0) ⌝ }
 {
     if instances::chooses(schema, table, n) {
         let x = wide(first[n]);
         let y = wide(second[n]);
         return is_good_choice(schema, table, p, index, list, rows, a, b, n, x, y, flags);
     }
-    all_flagged(schema, table, n, flags)
+    order::all_in(schema, table, n, flags)
 }
 
 fn flag(yes: bool) -> u8

@@ -17,7 +17,7 @@ use Rattle.instances.proofs.IsInstance.{Reached, root, on, IsInstance}
 use Rattle.instances.proofs.Valid.{successor-in}
 use Rattle.instances.proofs.RoundTrip.{reached-below}
 use Rattle.model.specs.Satisfaction.{every}
-use Rattle.model.specs.Order.{choiceOf, choiceAt, goodStep, good}
+use Rattle.model.specs.Order.{choiceOf, choiceAt, goodChoice, goodAt, goodStep, good}
 use Rattle.model.proofs.Lawful.{Strict}
 use Rattle.model.proofs.Relations.{AtLeast, at-leaf, at-all, at-same, at-better, SameChoices}
 use Rattle.model.proofs.Lists.{elem-one, every-at, at-every, every-same}
@@ -140,7 +140,7 @@ module _ (g : List Node) (better : ℕ → ℕ → ℕ → Bool) where
     -- ---- the test
 
     local : (h k : ℕ → Bool) (n : ℕ) → Reached g i n → ((s : ℕ) → n < s → Reached g i s → h s ≡ k s) → goodStep g better i j h n ≡ goodStep g better i j k n
-    unfolding goodStep
+    unfolding goodStep goodAt goodChoice
     local h k n r f = go (chooses (nodeAt g n)) refl
       where
         choice : (ℕ → Bool) → Bool
@@ -161,7 +161,7 @@ module _ (g : List Node) (better : ℕ → ℕ → ℕ → Bool) where
     good-by-table tab n r f = by-table (length g) (Reached g i) (λ n r. reached-below g A i I r) (goodStep g better i j) local tab n r f
 
     pub good-iff : {n : ℕ} → Reached g i n → (good g better i j n ≡ true) ↔ AtLeast g better i j n
-    unfolding goodStep
+    unfolding goodStep goodAt goodChoice
     good-iff {n} r = descend (length g) (Reached g i) (λ n r. reached-below g A i I r) (λ n. (good g better i j n ≡ true) ↔ AtLeast g better i j n) down n r
       where
         down : (n : ℕ) → Reached g i n → ((s : ℕ) → n < s → Reached g i s → (good g better i j s ≡ true) ↔ AtLeast g better i j s) → (good g better i j n ≡ true) ↔ AtLeast g better i j n

@@ -42,13 +42,17 @@ unfoldable pub within : ((ℕ → Bool) → ℕ → Bool) → ℕ → ℕ → Bo
 within step zero n = false
 within step (suc k) n = step (within step k) n
 
--- I is at least as good as J at node n, where h tells so of the nodes above it: 'kind 1 with successors, if the choices are equal
--- and it is so there, or I's choice is better'; 'kind 0, if so at every successor'; 'leaf, always', since it has none
+-- I is at least as good as J at node n, where h tells so of the nodes above it; their choices are x and y.
+-- 'Kind 1 with successors, if the choices are equal and it is so there, or I's choice is better'
+unfoldable pub goodChoice : (ℕ → ℕ → ℕ → Bool) → (ℕ → Bool) → ℕ → ℕ → ℕ → Bool
+goodChoice better h n x y = better n x y || eqb x y && h x
+
+-- 'kind 0, if so at every successor'; 'leaf, always', since it has none
+unfoldable pub goodAt : List Node → (ℕ → ℕ → ℕ → Bool) → (ℕ → Bool) → ℕ → ℕ → ℕ → Bool
+goodAt g better h n x y = cond (chooses (nodeAt g n)) (goodChoice better h n x y) (every h (nodeAt g n .successors))
+
 unfoldable pub goodStep : List Node → (ℕ → ℕ → ℕ → Bool) → List Entry → List Entry → (ℕ → Bool) → ℕ → Bool
-goodStep g better i j h n =
-    cond (chooses (nodeAt g n))
-    (better n (choiceAt i n) (choiceAt j n) || eqb (choiceAt i n) (choiceAt j n) && h (choiceAt i n))
-    (every h (nodeAt g n .successors))
+goodStep g better i j h n = goodAt g better h n (choiceAt i n) (choiceAt j n)
 
 -- no way up goes deeper than the count of nodes
 unfoldable pub good : List Node → (ℕ → ℕ → ℕ → Bool) → List Entry → List Entry → ℕ → Bool

@@ -1,8 +1,45 @@
-// What picks among a node's successors: it takes their ranks and the set of those that can be met, and no bytes.
+// A node's successors by column: a successor's column, whether all are in a set, and the pick among them, which takes
+// their ranks and the set of those that can be met.
 ghost use mathlib.Core.Path.{_≡_};
 ghost use Prim.Native.Nat.{_+_, _*_, _<_, _≤_};
 ghost use lib.ListN.{length};
-ghost use Rattle.order.specs.Order.{betterIn, allowedIn, over, First, Kept, Picked};
+ghost use Rattle.schema.specs.Schema.{schemaOf, nodeAt};
+ghost use Rattle.schema.specs.Table.{NodeIn, AtMost};
+ghost use Rattle.model.specs.Satisfaction.{columnOf, every};
+ghost use Rattle.order.specs.Order.{inSet, betterIn, allowedIn, over, First, Kept, Picked};
+
+// The column of x among node n's successors, their number where it is none of them.
+pub fn column_of(schema: &[u8], table: &[usize], n: usize, x: usize) -> usize
+    requires { ⌜ NodeIn (now schema) (now table) n ⌝ }
+    ensures { λ r. ⌜ AtMost 8 (columnOf x (nodeAt (schemaOf (now (schema .entry))) n .successors)) r ⌝ }
+{
+    let c = nodes::successor_count(schema, table, n);
+    let mut j: usize = 0;
+    while j < c {
+        if nodes::successor_of(schema, table, n, j) == x {
+            return j;
+        }
+        j += 1;
+    }
+    j
+}
+
+// Whether all of node n's successors are in a set of nodes.
+pub fn all_in(schema: &[u8], table: &[usize], n: usize, nodes: &[u8; 64]) -> bool
+    requires { ⌜ NodeIn (now schema) (now table) n ⌝ }
+    ensures { λ r. ⌜ r ≡ every (inSet (now (nodes .entry))) (nodeAt (schemaOf (now (schema .entry))) n .successors) ⌝ }
+{
+    let c = nodes::successor_count(schema, table, n);
+    let mut j: usize = 0;
+    while j < c {
+        let x = nodes::successor_of(schema, table, n, j);
+        if nodes[x] != 1 {
+            return false;
+        }
+        j += 1;
+    }
+    true
+}
 
 // Whether column p is better than column q.
 fn is_better(ranks: &[u8; 128], rows: usize, p: usize, q: usize) -> bool

@@ -1,21 +1,19 @@
 -- The column that the order picks is that of the successor which the model takes.
 -- Rests on the model's ranks by column and on `best` over a strict and total order.
 use mathlib.Core.Path.{_≡_, refl, ap, sym, subst, _∙_}
-use mathlib.Core.Bool.{Bool, true, false, not, _&&_}
+use mathlib.Core.Bool.{Bool, true, not, _&&_}
 use mathlib.Core.List.{List, [], _∷_}
 use mathlib.Core.Option.{Option, none, some, Option·getD}
-use Prim.Native.Nat.{ℕ, suc, _+_, _≤_, _<_}
+use Prim.Native.Nat.{ℕ, suc, _+_, _<_}
 use native.Mathlib.Omega.{arith}
 use native.Mathlib.Nat.{add-zero, zero-add}
-use native.Mathlib.Numerals.{add-one}
-use borrow.Author.Tests.{lt-ltb, eq-eqb, ne-eqb}
+use borrow.Author.Tests.{lt-ltb}
 use lib.Dec.{eqb}
-use lib.ListN.{length, getD, drop, drop-of-length-le}
-use lib.Seq.{drop-cons}
+use lib.ListN.{length, getD}
 use Rattle.fields.proofs.Bytes.{Bytes}
 use Rattle.fields.proofs.Tests.{and-yes, and-true}
-use Rattle.schema.specs.Schema.{Node, schemaOf, nodeAt}
-use Rattle.schema.specs.Table.{NodeIn, AtMost, SuccessorIs}
+use Rattle.schema.specs.Schema.{schemaOf, nodeAt}
+use Rattle.schema.specs.Table.{NodeIn}
 use Rattle.schema.proofs.Sound.{Sound}
 use Rattle.schema.proofs.Accepted.{sound}
 use Rattle.policies.specs.Policies.{Policy, rankOf, policiesOf, policyAt}
@@ -57,29 +55,6 @@ module _ (t : List ℕ) (n : ℕ) where
       let a : rankIn t j k ≡ rankOf q n k = ap (λ (i : ℕ). rankIn t i k) (sym (add-zero j)) ∙ f 0 (omega arith) in
       let ih = allowed-rows qs (j + 1) k (λ i h. ap (λ (m : ℕ). rankIn t m k) (let z : j + 1 + i ≡ j + suc i = omega arith in z) ∙ f (suc i) (omega arith)) in
       rw (a, ih)
-
--- ---- whether all are in a set
-
-module _ (nodes : List ℕ) where
-  pub all-start : (l : List ℕ) → every (inSet nodes) (drop 0 l) ≡ every (inSet nodes) l
-  all-start l = refl
-
-  all-next : (l : List ℕ) (k : ℕ) → k < length l → every (inSet nodes) (drop k l) ≡ (inSet nodes (getD l k 0) && every (inSet nodes) (drop (k + 1) l))
-  all-next l k h = ap (every (inSet nodes)) (drop-cons l k 0 h) ∙ ap (λ (j : ℕ). inSet nodes (getD l k 0) && every (inSet nodes) (drop j l)) (sym (add-one k))
-
-  module _ (g : List Node) (n k : ℕ) {columns : ℕ} {X : Bool} (i : every (inSet nodes) (drop k (nodeAt g n .successors)) ≡ X) (m : AtMost 8 (length (nodeAt g n .successors)) columns) where
-    pub all-no : {x : ℕ} → k < columns → SuccessorIs g n k x → (getD nodes x 0 ≡ 1 → ⊥) → false ≡ X
-    all-no h s e =
-        let z : inSet nodes (getD (nodeAt g n .successors) k 0) ≡ false = ne-eqb (getD nodes (getD (nodeAt g n .successors) k 0) 0) 1 (λ q. e (ap (λ (y : ℕ). getD nodes y 0) (s .is) ∙ q)) in
-        rw z at (sym (all-next (nodeAt g n .successors) k (omega (arith, m .is))) ∙ i)
-
-    pub all-on : {x : ℕ} → k < columns → SuccessorIs g n k x → getD nodes x 0 ≡ 1 → every (inSet nodes) (drop (k + 1) (nodeAt g n .successors)) ≡ X
-    all-on h s e =
-        let z : inSet nodes (getD (nodeAt g n .successors) k 0) ≡ true = eq-eqb (getD nodes (getD (nodeAt g n .successors) k 0) 0) 1 (ap (λ (y : ℕ). getD nodes y 0) (sym (s .is)) ∙ e) in
-        rw z at (sym (all-next (nodeAt g n .successors) k (omega (arith, m .is))) ∙ i)
-
-    pub all-done : columns ≤ k → true ≡ X
-    all-done h = sym (ap (every (inSet nodes)) (drop-of-length-le (nodeAt g n .successors) {i = k} (omega (arith, m .is)))) ∙ i
 
 -- ---- the pick
 

@@ -11,8 +11,7 @@ use lib.Dec.{eqb}
 use lib.ListN.{length, getD, set, length-set}
 use lib.Seq.{getD-set-same, getD-set-other}
 use Rattle.schema.specs.Schema.{Node, schemaOf, nodeAt}
-use Rattle.schema.specs.Table.{NodeIn, SuccessorIs}
-use Rattle.schema.proofs.Accepted.{file-of}
+use Rattle.schema.specs.Table.{SuccessorIs}
 use Rattle.policies.specs.Policies.{Rule, Policy, rankCount, rankOf, policiesOf, policyAt}
 use Rattle.policies.specs.Pass.{forced}
 use Rattle.order.specs.Order.{rankIn, inSet}
@@ -127,9 +126,6 @@ pub record Marking (g : List Node) (n k : ℕ) (nodes t : List ℕ) : Type 0 whe
 
 pub marking-none : (g : List Node) (n : ℕ) (nodes t : List ℕ) → length t ≡ 8 → Marking g n 0 nodes t
 marking-none g n nodes t e = record { each = λ i h. absurd (omega arith); long = e }
-
-pub marking-small : (schema table : List ℕ) (n k : ℕ) {x : ℕ} → NodeIn schema table n → SuccessorIs (schemaOf schema) n k x → x < 64
-marking-small schema table n k h s = let f = file-of schema (let z = h .below in omega arith) in omega (arith, s .below, f .few)
 
 pub marking-more : (schema : List ℕ) (n k : ℕ) (nodes t : List ℕ) {columns x : ℕ} → Marking (schemaOf schema) n k nodes t → Columns schema n columns → k < columns
     → SuccessorIs (schemaOf schema) n k x → Marking (schemaOf schema) n (k + 1) nodes (set t k (getD nodes x 0))

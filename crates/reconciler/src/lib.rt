@@ -10,9 +10,7 @@ ghost use Rattle.policies.specs.Pass.{forced};
 ghost use Rattle.policies.specs.Index.{IndexIn, Indexed, IndexRoom, SchemaIn};
 ghost use Rattle.instances.specs.File.{encode};
 ghost use Rattle.instances.specs.Plan.{planned, planOf};
-ghost use Rattle.model.specs.Satisfaction.{every};
 ghost use Rattle.model.specs.Reconciling.{reconciled};
-ghost use Rattle.order.specs.Order.{inSet};
 ghost use Rattle.conditions.specs.Held.{InForce};
 ghost use Rattle.conditions.specs.Places.{SaidAt, Found};
 ghost use Rattle.calls.specs.Calls.{given, reconcilingUnder, reconciling};
@@ -214,23 +212,6 @@ fn choose(
     order::pick(&ranks, rows, columns, &set)
 }
 
-// Whether all of node n's successors are in a set of nodes.
-fn all_in(schema: &[u8], table: &[usize], n: usize, nodes: &[u8; 64]) -> bool
-    requires { ⌜ NodeIn (now schema) (now table) n ⌝ }
-    ensures { λ r. ⌜ r ≡ every (inSet (now (nodes .entry))) (nodeAt (schemaOf (now (schema .entry))) n .successors) ⌝ }
-{
-    let columns = nodes::successor_count(schema, table, n);
-    let mut k: usize = 0;
-    while k < columns {
-        let x = nodes::successor_of(schema, table, n, k);
-        if nodes[x] != 1 {
-            return false;
-        }
-        k += 1;
-    }
-    true
-}
-
 // What is done at node n, where a set tells which nodes above it can be met; the policies' places are found.
 fn plan_at(
     schema: &[u8],
@@ -261,7 +242,7 @@ fn plan_at(
             }
             return Plan::Unmet;
         }
-        if all_in(schema, table, n, nodes) {
+        if order::all_in(schema, table, n, nodes) {
             return Plan::Met;
         }
         return Plan::Unmet;

@@ -1,7 +1,7 @@
 -- From node n up the flags of the reached nodes are right.
 -- Rests on the laws of the pass over the nodes, in Flagging.
 use borrow.Author.Needs.{needs}
-use Rattle.comparison.proofs.Flagging.{Flagging, flagging-start, flagging-node, flagging-small, flagging-more, flagging-done}
+use Rattle.comparison.proofs.Flagging.{Flagging, flagging-start, flagging-node, flagging-small, flagging-long, flagging-more, flagging-done}
 use Rattle.comparison.proofs.as_good.Statement.{statement}
 use Rattle.comparison.proofs.as_good.Tie as tie
 
@@ -27,7 +27,7 @@ sub-n : tie.Need-sub-n Inv-loop μ-loop
 sub-n c = search needs
 
 is-good-requires : tie.Need-is-good-requires Inv-loop μ-loop
-is-good-requires c κs = search (flagging-node, needs)
+is-good-requires c κs = (search flagging-node, (search needs, search flagging-long))
 
 flag-requires : tie.Need-flag-requires Inv-loop μ-loop
 flag-requires c κs = search needs

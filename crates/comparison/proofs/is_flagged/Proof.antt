@@ -1,7 +1,7 @@
 -- A number above all nodes has no flag.
--- Rests on the laws of one flag, in Good.
+-- Rests on none-beyond, in Good.
 use borrow.Author.Needs.{needs}
-use Rattle.comparison.proofs.Good.{flag-at, flag-beyond}
+use Rattle.comparison.proofs.Good.{none-beyond}
 use Rattle.comparison.proofs.is_flagged.Statement.{statement}
 use Rattle.comparison.proofs.is_flagged.Tie as tie
 
@@ -9,10 +9,10 @@ element-copy-out-result : tie.Need-element-copy-out-result
 element-copy-out-result c = search needs
 
 returns : tie.Need-returns
-returns c = search flag-at
+returns c = search needs
 
 returns-2 : tie.Need-returns-2
-returns-2 c = search flag-beyond
+returns-2 c = search none-beyond
 
 pub is-flagged-spec : {M : Type 1} → statement M
 is-flagged-spec = tie.close (tie.spec element-copy-out-result returns returns-2)

@@ -27,8 +27,8 @@ is-good-choice-requires c κs = search needs
 returns : tie.Need-returns
 returns c = search node-chooses
 
-all-flagged-requires : tie.Need-all-flagged-requires
-all-flagged-requires c κs = search needs
+all-in-requires : tie.Need-all-in-requires
+all-in-requires c κs = search needs
 
 returns-2 : tie.Need-returns-2
 returns-2 c = search node-rests
@@ -44,5 +44,5 @@ is-good-spec =
     wide-requires-2
     is-good-choice-requires
     returns
-    all-flagged-requires
+    all-in-requires
     returns-2)

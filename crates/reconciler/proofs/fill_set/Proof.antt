@@ -2,7 +2,8 @@
 -- Rests on the laws of the set, in Tables.
 use Prim.Native.Nat.{_-_}
 use Rattle.schema.specs.Schema.{schemaOf}
-use Rattle.reconciler.proofs.Tables.{Marking, marking-none, marking-small, marking-more, marking-done}
+use Rattle.order.proofs.Successors.{successor-small}
+use Rattle.reconciler.proofs.Tables.{Marking, marking-none, marking-more, marking-done}
 use borrow.Author.Needs.{needs}
 use Rattle.reconciler.proofs.fill_set.Statement.{statement}
 use Rattle.reconciler.proofs.fill_set.Tie as tie
@@ -17,19 +18,19 @@ loop-holds : tie.Need-loop-holds Inv-loop μ-loop
 loop-holds c = search marking-none
 
 successor-of-requires : tie.Need-successor-of-requires Inv-loop μ-loop
-successor-of-requires c κs = search (marking-small, needs)
+successor-of-requires c κs = search (successor-small, needs)
 
 element-copy-out-set : tie.Need-element-copy-out-set Inv-loop μ-loop
-element-copy-out-set c = search (marking-small, needs)
+element-copy-out-set c = search (successor-small, needs)
 
 element-write-set : tie.Need-element-write-set Inv-loop μ-loop
-element-write-set c = search (marking-small, needs)
+element-write-set c = search (successor-small, needs)
 
 add-k : tie.Need-add-k Inv-loop μ-loop
-add-k c = search (marking-small, needs)
+add-k c = search (successor-small, needs)
 
 loop-less : tie.Need-loop-less Inv-loop μ-loop
-loop-less c = search (marking-small, needs)
+loop-less c = search (successor-small, needs)
 
 loop-again : tie.Need-loop-again Inv-loop μ-loop
 loop-again c = search marking-more
