@@ -30,6 +30,13 @@ pub record Accepted (f p : List ℕ) (a b : ℕ) : Type 0 where
   pub policies-read : policies g p ≡ got ps policies-end
   pub pass-read : pass a b ≡ got day pass-end
 
+-- the schema of a file of bytes is sound
+pub sound-read : (f : List ℕ) → Bytes f → {g : List Node} {q : ℕ} → schema f ≡ got g q → Sound g
+unfolding schemaOf
+sound-read f h {g} e =
+    let z : schemaOf f ≡ g = rw e in
+    subst Sound z (sound f h (rw z (file-back f e .some)))
+
 module _ {f p : List ℕ} {a b : ℕ} (A : Accepted f p a b) where
   pub reconciling-is : (out : List ℕ) → reconciling f p a b out ≡ given (A .g) out (reconciled (A .g) (forced a b (A .ps)))
   unfolding reconciling reconcilingUnder judgedIn
@@ -44,9 +51,5 @@ module _ {f p : List ℕ} {a b : ℕ} (A : Accepted f p a b) where
   unfolding comparing comparingUnder comparingInForce judged
   comparing-is s t e h = rw (A .schema-read, A .policies-read, A .pass-read, e, h)
 
-  -- the schema of a file of bytes is sound
   pub sound-schema : Bytes f → Sound (A .g)
-  unfolding schemaOf
-  sound-schema h =
-      let e : schemaOf f ≡ A .g = rw (A .schema-read) in
-      subst Sound e (sound f h (rw e (file-back f (A .schema-read) .some)))
+  sound-schema h = sound-read f h (A .schema-read)

@@ -2,11 +2,10 @@
 -- Rests on the definitions of the calls, and on the laws that no refusal of a file has number 0. That every call ends and
 -- answers so is its contract, which has no premise.
 use mathlib.Core.Path.{_≡_, refl, _∙_}
-use mathlib.Core.Bool.{Bool, true, false, cond, _&&_}
+use mathlib.Core.Bool.{Bool, true, false, cond}
 use mathlib.Core.List.{List, _++_}
 use mathlib.Core.Option.{Option, none, some}
 use Prim.Native.Nat.{ℕ, _+_, _<_}
-use native.Mathlib.Omega.{arith}
 use borrow.Author.Tests.{lt-leb}
 use lib.Dec.{leb}
 use lib.ListN.{length, drop}
@@ -14,12 +13,12 @@ use Rattle.fields.specs.Reading.{Got, got, bad}
 use Rattle.fields.specs.declared.Answer.{Answer}
 use Rattle.fields.specs.Answers.{judged, success, refusal}
 use Rattle.fields.specs.Outcomes.{Outcome, refused, judgedIn, placed}
-use Rattle.fields.proofs.Refusals.{numbered, cond-numbered}
+use Rattle.fields.proofs.Refusals.{numbered}
 use Rattle.schema.specs.Schema.{Node, schema}
 use Rattle.schema.proofs.Refusals as of-schema
 use Rattle.policies.specs.Policies.{Policy, policies}
 use Rattle.policies.specs.Pass.{pass, forced}
-use Rattle.policies.proofs.Within.{refusal-number}
+use Rattle.policies.proofs.Within.{policies-numbered, pass-numbered}
 use Rattle.instances.specs.Instance.{Entry}
 use Rattle.instances.specs.File.{instance, encode}
 use Rattle.copying.specs.Copying.{copyingUnder, copying}
@@ -109,17 +108,13 @@ unfolding given
 given-untouched g out none = refused-untouched 13 0 0 out
 given-untouched g out (some i) = placed-untouched (encode g i) out
 
-pass-number : (a b : ℕ) {n o : ℕ} → pass a b ≡ bad n o → n ≡ 0 → ⊥
-unfolding pass
-pass-number a b = numbered (cond-numbered (leb a b && leb b (a + 1)) (got a 0) (bad 12 0) tt (λ e. omega arith))
-
 pub demand-1 : (f p : List ℕ) (a b : ℕ) (s t out : List ℕ) → Demand1 f p a b s t out
 unfolding reconciling reconcilingUnder checking checkingUnder checkingInForce comparing comparingUnder comparingInForce copying copyingUnder judged judgedIn given permitted
 demand-1 f p a b s t out =
     record {
       schema-refused = λ {n} {o} e. record { number = of-schema.refused f e; reconcile = rw e; check = rw e; compare = rw e };
-      policies-refused = λ {g} {q} {n} {o} e h. record { number = refusal-number g p h; reconcile = rw (e, h); check = rw (e, h); compare = rw (e, h) };
-      pass-refused = λ {g} {ps} {q} {r} {n} {o} e h x. record { number = pass-number a b x; reconcile = rw (e, h, x); check = rw (e, h, x); compare = rw (e, h, x) };
+      policies-refused = λ {g} {q} {n} {o} e h. record { number = numbered (policies-numbered g p) h; reconcile = rw (e, h); check = rw (e, h); compare = rw (e, h) };
+      pass-refused = λ {g} {ps} {q} {r} {n} {o} e h x. record { number = numbered (pass-numbered a b) x; reconcile = rw (e, h, x); check = rw (e, h, x); compare = rw (e, h, x) };
       instance-refused = λ A {n} {o} e. rw (A .schema-read, A .policies-read, A .pass-read, e);
       first-refused = λ A {n} {o} e. rw (A .schema-read, A .policies-read, A .pass-read, e);
       second-refused = λ A {i} {q} {n} {o} e h. rw (A .schema-read, A .policies-read, A .pass-read, e, h);

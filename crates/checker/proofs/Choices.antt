@@ -5,20 +5,18 @@ use mathlib.Core.Bool.{Bool, true, false, cond, not, _&&_}
 use mathlib.Core.List.{List, [], _∷_}
 use Prim.Native.Nat.{ℕ, suc, _+_, _≤_, _<_}
 use native.Mathlib.Omega.{arith}
-use native.Mathlib.Numerals.{add-one}
 use borrow.Author.Tests.{eqb-true, eq-eqb, ne-eqb}
 use lib.Dec.{eqb, ltb}
 use lib.ListN.{length, getD, drop, drop-of-length-le}
-use lib.Seq.{drop-cons}
 use Rattle.fields.proofs.Tests.{and-true, never}
 use Rattle.schema.specs.Schema.{Node, schemaOf, nodeAt}
 use Rattle.schema.specs.Table.{NodeIn, AtMost}
-use Rattle.policies.specs.Policies.{Policy, rankCount, rankOf, policiesOf, noPolicy}
-use Rattle.policies.specs.Pass.{forced}
-use Rattle.policies.specs.Index.{PolicyIn, RankIn, policyOf, IndexIn}
+use Rattle.policies.specs.Policies.{Policy, rankCount, rankOf, policiesOf}
+use Rattle.policies.specs.Pass.{forced, InForce}
+use Rattle.policies.specs.Index.{RankIn, policyOf}
 use Rattle.instances.specs.Instance.{elem, chooses, rightChoice}
 use Rattle.model.specs.Satisfaction.{columnOf, rank, every, allowed, choiceMeets}
-use Rattle.conditions.specs.Held.{InForce}
+use Rattle.policies.proofs.Above.{force-rows, force-drop}
 use Rattle.checker.specs.Checks.{allowedColumn, choosing}
 
 -- ---- the column of a successor
@@ -51,14 +49,9 @@ module _ (schema p list : List ℕ) (a b n k r : ℕ) {rows : ℕ} (w : Asking (
   next : {y : ℕ} → r < rows → y ≡ rankOf (policyOf schema p (getD list r 0)) n k → allowedColumn ps n k ≡ not (eqb y 255) && allowedColumn (drop (r + 1) ps) n k
   unfolding allowedColumn
   next {y} h e =
-      let d : drop r ps ≡ policyOf schema p (getD list r 0) ∷ drop (r + 1) ps =
-      rw (add-one r) (drop-cons ps r noPolicy (omega (arith, f .rows-is)) ∙ ap (λ (q : Policy). q ∷ drop (suc r) ps) (sym (f .is r h))) in
       sym (w .rest)
-      ∙ ap (λ (l : List Policy). every (λ (q : Policy). not (eqb (rankOf q n k) 255)) l) d
+      ∙ ap (λ (l : List Policy). every (λ (q : Policy). not (eqb (rankOf q n k) 255)) l) (force-drop schema p list a b f r h)
       ∙ ap (λ (z : ℕ). not (eqb z 255) && every (λ (q : Policy). not (eqb (rankOf q n k) 255)) (drop (r + 1) ps)) (sym e)
-
-  pub asking-policy : (index : List ℕ) → IndexIn schema p index → r < rows → PolicyIn schema p index (getD list r 0)
-  asking-policy index e h = record { index = e; below = f .inside r h }
 
   pub asking-no : {y : ℕ} → r < rows → y ≡ rankOf (policyOf schema p (getD list r 0)) n k → y ≡ 255 → false ≡ allowedColumn ps n k
   asking-no {y} h e t = sym (rw (eq-eqb y 255 t) at (next h e))
@@ -68,7 +61,7 @@ module _ (schema p list : List ℕ) (a b n k r : ℕ) {rows : ℕ} (w : Asking (
 
   pub asking-done : rows ≤ r → true ≡ allowedColumn ps n k
   unfolding allowedColumn
-  asking-done h = rw (drop-of-length-le ps {i = r} (omega (arith, f .rows-is))) at (w .rest)
+  asking-done h = rw (drop-of-length-le ps {i = r} (omega (arith, force-rows schema p list a b f))) at (w .rest)
 
 -- ---- a choice
 

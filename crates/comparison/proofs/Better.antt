@@ -2,19 +2,18 @@
 -- Rests on what the accessors of schema and policies answer, and on sound policies for a column that no rank has.
 use mathlib.Core.Path.{_≡_, refl, ap, sym, _∙_}
 use mathlib.Core.Bool.{true, false, cond}
-use mathlib.Core.List.{List, _∷_}
-use Prim.Native.Nat.{ℕ, suc, _+_, _≤_, _<_}
+use mathlib.Core.List.{List}
+use Prim.Native.Nat.{ℕ, _+_, _≤_, _<_}
 use native.Mathlib.Omega.{arith}
-use native.Mathlib.Numerals.{add-one}
 use borrow.Author.Tests.{lt-ltb, le-ltb, eq-eqb, ne-eqb}
 use lib.Dec.{eqb, ltb}
 use lib.ListN.{length, List·getD-eq-default, getD, drop, drop-of-length-le}
-use lib.Seq.{drop-cons}
 use Rattle.schema.specs.Schema.{Node, nodeAt, schemaOf}
 use Rattle.schema.specs.Table.{NodeIn, AtMost}
-use Rattle.policies.specs.Policies.{Rule, Policy, rankCount, policiesOf, noPolicy, rankOf}
+use Rattle.policies.specs.Policies.{Rule, Policy, rankCount, policiesOf, rankOf}
 use Rattle.policies.specs.Pass.{forced}
 use Rattle.policies.specs.Index.{PolicyIn, RankIn, policyOf}
+use Rattle.policies.proofs.Above.{force-rows, force-few, force-row, force-in, force-drop}
 use Rattle.policies.proofs.Sound.{stood, Says, silent, speaks, says}
 use Rattle.model.specs.Satisfaction.{columnOf, rank}
 use Rattle.model.specs.Order.{betterBy, better}
@@ -44,6 +43,9 @@ pub deciding-start : (g : List Node) (ps : List Policy) (n x y : ℕ) → Decidi
 unfolding better
 deciding-start g ps n x y = record { rest = refl }
 
+pub rows-few : (schema p index list : List ℕ) (a b : ℕ) {rows : ℕ} → Ranking schema p index list rows a b → rows ≤ 16
+rows-few schema p index list a b w = force-few schema p list a b (w .in-force)
+
 module _ (schema p index list : List ℕ) (a b n x y r : ℕ) where
   abbrev g : List Node
   g = schemaOf schema
@@ -58,13 +60,10 @@ module _ (schema p index list : List ℕ) (a b n x y r : ℕ) where
   q = policyOf schema p (getD list r 0)
 
   pub row-in : {rows : ℕ} → Ranking schema p index list rows a b → r < rows → PolicyIn schema p index (getD list r 0)
-  row-in w h = record { index = w .index-is; below = w .in-force .inside r h }
+  row-in w h = force-in schema p list a b (w .in-force) r h (w .index-is)
 
   pub row-few : {rows : ℕ} → Ranking schema p index list rows a b → r < rows → r < 16
-  row-few w h = let z = w .in-force .few in omega arith
-
-  rows-more : {rows : ℕ} → Ranking schema p index list rows a b → r < rows → drop r ps ≡ q ∷ drop (r + 1) ps
-  rows-more w h = rw (add-one r) (drop-cons ps r noPolicy (omega (arith, w .in-force .rows-is)) ∙ ap (λ (z : Policy). z ∷ drop (suc r) ps) (sym (w .in-force .is r h)))
+  row-few w h = force-row schema p list a b (w .in-force) r h
 
   module _ {rows : ℕ} (i : Deciding g ps n x y r) (w : Ranking schema p index list rows a b) (h : r < rows) {c d s t : ℕ} (cx : AtMost 8 (columnOf x (nodeAt g n .successors)) c) (cy : AtMost 8 (columnOf y (nodeAt g n .successors)) d)
       (sx : s ≡ rankOf q n c) (ty : t ≡ rankOf q n d) where
@@ -79,7 +78,7 @@ module _ (schema p index list : List ℕ) (a b n x y r : ℕ) where
 
     step : betterBy ranks (drop r ps) x y ≡ cond (eqb (ranks q x) (ranks q y)) (betterBy ranks (drop (r + 1) ps) x y) (ltb (ranks q x) (ranks q y))
     unfolding betterBy
-    step = ap (λ (l : List Policy). betterBy ranks l x y) (rows-more w h)
+    step = ap (λ (l : List Policy). betterBy ranks l x y) (force-drop schema p list a b (w .in-force) r h)
 
     turn : cond (eqb s t) (betterBy ranks (drop (r + 1) ps) x y) (ltb s t) ≡ better g ps n x y
     turn =
@@ -99,4 +98,4 @@ module _ (schema p index list : List ℕ) (a b n x y r : ℕ) where
 
   pub better-done : {rows : ℕ} → Deciding g ps n x y r → Ranking schema p index list rows a b → rows ≤ r → ltb x y ≡ better g ps n x y
   unfolding betterBy
-  better-done i w h = sym (ap (λ (l : List Policy). betterBy ranks l x y) (drop-of-length-le ps {i = r} (omega (arith, w .in-force .rows-is)))) ∙ i .rest
+  better-done i w h = sym (ap (λ (l : List Policy). betterBy ranks l x y) (drop-of-length-le ps {i = r} (omega (arith, force-rows schema p list a b (w .in-force))))) ∙ i .rest

@@ -17,6 +17,7 @@ use Rattle.policies.specs.Index.{Indexed}
 use Rattle.policy_reader.specs.Answers.{Told}
 use Rattle.policy_reader.specs.declared.PoliciesRead.{PoliciesRead}
 use Rattle.policy_reader.specs.declared.PoliciesRead.the-variants.{Policies, Refused}
+use Rattle.policies.proofs.Above.{listed}
 use Rattle.policy_reader.proofs.Above.{accepted-policies, refused-policies}
 use Rattle.instances.specs.File.{instance}
 use Rattle.lookup.specs.Lookup.{instanceOf}
@@ -25,13 +26,12 @@ use Rattle.model.specs.Order.{asGood}
 use Rattle.model.specs.Comparing.{verdict, compared}
 use Rattle.calls.specs.Calls.{comparingInForce, comparingUnder, comparing}
 use Rattle.comparison.specs.Comparison.{Ranking}
-use Rattle.conditions.proofs.Listed.{listed}
 
 -- ---- the policies in force
 
 pub ranking-by : (schema p t : List ℕ) (a b : ℕ) (l₀ l : List ℕ) {count rows : ℕ} → Indexed schema p t count
     → Listing (positions a b 0 (policiesOf (schemaOf schema) p)) l₀ l rows → Ranking schema p t l rows a b
-ranking-by schema p t a b l₀ l w k = record { index-is = w .index; in-force = listed schema p t a b l₀ l w k }
+ranking-by schema p t a b l₀ l w k = record { index-is = w .index; in-force = listed schema p a b l₀ l k }
 
 -- ---- the verdict
 

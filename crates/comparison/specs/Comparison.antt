@@ -2,7 +2,7 @@
 use Prim.Native.Nat.{ℕ}
 use mathlib.Core.List.{List}
 use Rattle.policies.specs.Index.{IndexIn}
-use Rattle.conditions.specs.Held.{InForce}
+use Rattle.policies.specs.Pass.{InForce}
 
 -- the index of the file p, and the policies in force
 pub record Ranking (schema p index list : List ℕ) (rows a b : ℕ) : Type 0 where

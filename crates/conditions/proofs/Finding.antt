@@ -9,9 +9,10 @@ use native.Mathlib.Decide.{ℕ-discrete}
 use lib.ListN.{length, getD, set, length-set}
 use lib.Seq.{getD-set-same, getD-set-other}
 use Rattle.schema.specs.Table.{NodeIn}
-use Rattle.policies.specs.Index.{PolicyIn, IndexIn}
-use Rattle.conditions.specs.Held.{InForce}
-use Rattle.conditions.specs.Places.{placeIn, found, Found}
+use Rattle.policies.specs.Index.{placeIn, IndexIn}
+use Rattle.policies.specs.Pass.{InForce}
+use Rattle.policies.proofs.Above.{force-rows, force-few, force-in, force-is}
+use Rattle.conditions.specs.Places.{found, Found}
 use Rattle.conditions.proofs.Said.{said-at}
 
 found-long : (index list : List ℕ) (n r : ℕ) (t : List ℕ) → length (found index list n r t) ≡ length t
@@ -30,9 +31,6 @@ pub record Finding (index list : List ℕ) (n rows r : ℕ) (t₀ t : List ℕ) 
 pub finding-none : (index list : List ℕ) (n rows : ℕ) (t : List ℕ) → length t ≡ 16 → Finding index list n rows 0 t t
 unfolding found
 finding-none index list n rows t l = record { upto = omega arith; is = refl; long = l }
-
-pub finding-policy : (schema p index list : List ℕ) (a b r : ℕ) {rows : ℕ} → IndexIn schema p index → InForce schema p list rows a b → r < rows → PolicyIn schema p index (getD list r 0)
-finding-policy schema p index list a b r e f h = record { index = e; below = f .inside r h }
 
 module _ (index list : List ℕ) (n rows r : ℕ) (t₀ t : List ℕ) (w : Finding index list n rows r t₀ t) where
   pub finding-more : {x : ℕ} → r < rows → x ≡ placeIn index (getD list r 0) n → Finding index list n rows (r + 1) t₀ (set t r x)
@@ -62,9 +60,9 @@ pub found-is : (schema table p index list : List ℕ) (a b n : ℕ) (t₀ t : Li
     → t ≡ found index list n rows t₀ → Found schema p a b n rows t
 found-is schema table p index list a b n t₀ t {rows} h x f l e =
     record {
-      rows-is = f .rows-is;
-      few = omega (arith, f .few);
+      rows-is = force-rows schema p list a b f;
+      few = force-few schema p list a b f;
       each = λ r k.
-          let z : getD t r 0 ≡ placeIn index (getD list r 0) n = ap (λ (l : List ℕ). getD l r 0) e ∙ found-at index list n rows t₀ r (omega (arith, f .few)) k in
-          rw (z, sym (f .is r k)) (said-at schema p index (getD list r 0) n (finding-policy schema p index list a b r x f k) (h .below));
+          let z : getD t r 0 ≡ placeIn index (getD list r 0) n = ap (λ (l : List ℕ). getD l r 0) e ∙ found-at index list n rows t₀ r (omega (arith, force-few schema p list a b f)) k in
+          rw (z, sym (force-is schema p list a b f r k)) (said-at schema p index (getD list r 0) n (force-in schema p list a b f r k x) (h .below));
     }

@@ -3,4 +3,3 @@ pub mod Said
 pub mod Narrowing
 pub mod Finding
 pub mod Combining
-pub mod Listed

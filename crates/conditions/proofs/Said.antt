@@ -4,7 +4,7 @@ use mathlib.Core.Path.{_≡_, refl, ap, sym, subst, _∙_}
 use mathlib.Core.Bool.{Bool, true, false, cond}
 use mathlib.Core.List.{List}
 use mathlib.Core.Option.{Option, none, some}
-use Prim.Native.Nat.{ℕ, zero, suc, _+_, _*_, _^_, _≤_, _<_}
+use Prim.Native.Nat.{ℕ, zero, suc, _+_, _*_, _≤_, _<_}
 use native.Mathlib.Omega.{arith}
 use native.Mathlib.Nat.{add-zero}
 use native.Mathlib.Decide.{ℕ-discrete}
@@ -12,8 +12,6 @@ use borrow.Author.Tests.{eq-eqb, ne-eqb}
 use lib.Dec.{eqb}
 use lib.ListN.{length, getD, getElem?, drop, length-drop}
 use lib.Seq.{getD-drop}
-use mir.Syntax.{w64}
-use mir.Val.{Fits}
 use Rattle.fields.specs.Reading.{got, part, be, field, signed}
 use Rattle.fields.proofs.Reading.{whole-got}
 use Rattle.fields.proofs.Bytes.{be-same}
@@ -22,12 +20,11 @@ use Rattle.schema.specs.Schema.{Node, schemaOf, nodeAt, noVariable, isNumber}
 use Rattle.schema.specs.declared.Variable.{Variable}
 use Rattle.schema.specs.declared.Variable.the-variants.{Number, Listed}
 use Rattle.policies.specs.Policies.{Condition, range, mask, Rule, Policy, condition, conditions, conditionsOf, ruleFor, noRule, rankCount, rankOf}
-use Rattle.policies.specs.Index.{conditionWidth, PolicyIn, policyOf, span, spans, offsetOf}
+use Rattle.policies.specs.Index.{conditionWidth, placeIn, PolicyIn, policyOf, span, spans, offsetOf}
 use Rattle.policies.proofs.Stands.{ConditionAt, ConditionsAt, none, more, conditions-back}
-use Rattle.policies.proofs.Nodes.{nodes-few}
-use Rattle.policies.proofs.Places.{Place, absent, present, row, head-in, rest}
+use Rattle.policies.proofs.Places.{Place, absent, present, row, rest, place-inside}
 use Rattle.model.specs.Satisfaction.{conditionAt}
-use Rattle.conditions.specs.Places.{placeIn, SaidAt, ConditionIn}
+use Rattle.conditions.specs.Places.{SaidAt, ConditionIn}
 
 -- ---- conditions that stand somewhere are read there
 
@@ -69,9 +66,6 @@ module _ (h : ℕ) (s : List ℕ) where
       (subst (λ (i : ℕ). ConditionsAt s i vs cs) (let z : h + (p + conditionWidth c) ≡ h + p + conditionWidth c = omega arith in z) (conditions-shift t))
 
 -- ---- through the index
-
-pub node-few : (schema : List ℕ) (n : ℕ) → n < length (schemaOf schema) → n < 64
-node-few schema n h = omega (arith, nodes-few schema)
 
 module _ (schema p t : List ℕ) (j n : ℕ) (w : PolicyIn schema p t j) (below : n < length (schemaOf schema)) where
   abbrev head : ℕ
@@ -118,12 +112,6 @@ module _ (schema p t : List ℕ) (j n : ℕ) (w : PolicyIn schema p t j) (below 
       }
 
   module _ (e : at ≡ 0 → ⊥) where
-    said-inside : head + at ≤ length p
-    said-inside = let z = there here e .inside in omega (arith, length-drop head p, head-in schema p t j w)
-
-    pub said-fits : length p < 2 ^ 64 → Fits w64 (head + at)
-    said-fits m = record { fits = omega (arith, said-inside) }
-
     said-there : SaidAt (schemaOf schema) p (policyOf schema p j) n (head + at)
     unfolding rankOf conditionsOf
     said-there =
@@ -131,7 +119,7 @@ module _ (schema p t : List ℕ) (j n : ℕ) (w : PolicyIn schema p t j) (below 
         let c = conditions-there (conditions-shift head p (x .conditions)) in
         record {
           silent = λ z. absurd (e (omega arith));
-          inside = said-inside;
+          inside = place-inside schema p t j w n below e;
           ranks = λ _ k l.
               let r = x .ranks k l in
               let z : head + (at + k) ≡ head + at + k = omega arith in

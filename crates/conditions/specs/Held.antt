@@ -1,15 +1,11 @@
 -- 'The combined conditions of one node are one record', with four places for its variables.
-use Prim.Native.Nat.{ℕ, _+_, _<_}
-use mathlib.Core.Path.{_≡_}
+use Prim.Native.Nat.{ℕ, _+_}
 use mathlib.Core.List.{List, [], _∷_}
-use lib.ListN.{length, getD}
+use lib.ListN.{getD}
 use lib.IntN.{ℤ, pos}
-use Rattle.schema.specs.Schema.{schemaOf}
 use Rattle.schema.specs.declared.Variable.{Variable}
 use Rattle.schema.specs.declared.Variable.the-variants.{Number, Listed}
-use Rattle.policies.specs.Policies.{Condition, range, mask, policiesOf, policyAt}
-use Rattle.policies.specs.Pass.{forced}
-use Rattle.policies.specs.Index.{policyOf}
+use Rattle.policies.specs.Policies.{Condition, range, mask}
 use Rattle.conditions.specs.declared.Conditions.{Conditions}
 
 -- what each array has of a condition, 0 where the other kind has none
@@ -46,10 +42,3 @@ conditionIn c (Listed size) k = mask (getD (c .mask) k 0)
 unfoldable pub conditionsIn : Conditions → ℕ → List Variable → List Condition
 conditionsIn c k [] = []
 conditionsIn c k (v ∷ vs) = conditionIn c v k ∷ conditionsIn c (k + 1) vs
-
--- the first rows of a list are the positions of the policies in force in the file p
-pub record InForce (schema p list : List ℕ) (rows a b : ℕ) : Type 0 where
-  pub rows-is : rows ≡ length (forced a b (policiesOf (schemaOf schema) p))
-  pub few : rows < 17
-  pub inside : (r : ℕ) → r < rows → getD list r 0 < length (policiesOf (schemaOf schema) p)
-  pub is : (r : ℕ) → r < rows → policyOf schema p (getD list r 0) ≡ policyAt (forced a b (policiesOf (schemaOf schema) p)) r

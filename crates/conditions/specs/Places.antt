@@ -1,19 +1,14 @@
 -- Where the policies in force speak of a node, in their file.
-use Prim.Native.Nat.{ℕ, zero, suc, _+_, _*_, _<_, _≤_}
+use Prim.Native.Nat.{ℕ, zero, suc, _+_, _<_, _≤_}
 use mathlib.Core.Path.{_≡_}
-use mathlib.Core.Bool.{Bool, cond}
+use mathlib.Core.Bool.{Bool}
 use mathlib.Core.List.{List}
-use lib.Dec.{eqb}
 use lib.ListN.{length, getD, set}
 use Rattle.fields.specs.Reading.{got}
 use Rattle.schema.specs.Schema.{Node, schemaOf, nodeAt, noVariable, isNumber}
 use Rattle.policies.specs.Policies.{Policy, conditions, rankCount, ruleFor, noRule, rankOf, conditionsOf, policiesOf, policyAt}
 use Rattle.policies.specs.Pass.{forced}
-use Rattle.policies.specs.Index.{offsetOf}
-
--- where policy j speaks of node n in the file, by the index: where its ranks begin, 0 for nowhere
-unfoldable pub placeIn : List ℕ → ℕ → ℕ → ℕ
-placeIn index j n = cond (eqb (getD index (16 + 16 * n + j) 0) 0) 0 (getD index j 0 + getD index (16 + 16 * n + j) 0)
+use Rattle.policies.specs.Index.{placeIn, offsetOf}
 
 -- the places t, the first rows of them where the policies of a list speak of node n
 unfoldable pub found : List ℕ → List ℕ → ℕ → ℕ → List ℕ → List ℕ

@@ -7,11 +7,11 @@ ghost use Rattle.numbers.specs.Bits.{ones};
 ghost use Rattle.schema.specs.Schema.{schemaOf};
 ghost use Rattle.schema.specs.Table.{NodeIn};
 ghost use Rattle.policies.specs.Policies.{range, mask, policiesOf};
-ghost use Rattle.policies.specs.Pass.{forced};
-ghost use Rattle.policies.specs.Index.{PolicyIn, IndexIn};
+ghost use Rattle.policies.specs.Pass.{forced, InForce};
+ghost use Rattle.policies.specs.Index.{IndexIn};
 ghost use Rattle.model.specs.Reconciling.{restrictAll, combined};
-ghost use Rattle.conditions.specs.Held.{InForce, recordOf};
-ghost use Rattle.conditions.specs.Places.{placeIn, found, Found, ConditionIn};
+ghost use Rattle.conditions.specs.Held.{recordOf};
+ghost use Rattle.conditions.specs.Places.{found, Found, ConditionIn};
 use schema::Variable;
 
 // The combined conditions of one node: a range for a number, a mask for a listed variable, a place for each of four.
@@ -25,19 +25,6 @@ pub struct Conditions {
 struct Range {
     lo: i32,
     hi: i32,
-}
-
-// Where policy j speaks of node n in the file: where its ranks begin, 0 for nowhere.
-fn place_of(schema: &[u8], p: &[u8], index: &[usize], j: usize, n: usize) -> usize
-    requires { ⌜ PolicyIn (now schema) (now p) (now index) j ⌝ }
-    requires { ⌜ n < length (schemaOf (now schema)) ⌝ }
-    ensures { λ r. ⌜ r ≡ placeIn (now (index .entry)) j n ⌝ }
-{
-    let at = index[16 + 16 * n + j];
-    if at == 0 {
-        return 0;
-    }
-    index[j] + at
 }
 
 // Where the policies in force speak of node n.
@@ -58,10 +45,10 @@ pub fn find(
     requires { ⌜ length (now places) ≡ 16 ⌝ }
     ensures { λ _. ⌜ now (places .exit) ≡ found (now (index .entry)) (now (list .entry)) n rows (now (places .entry)) ⌝ }
 {
-    let mut r: usize = 0;
-    while r < rows {
-        places[r] = place_of(schema, p, index, list[r], n);
-        r += 1;
+    let mut i: usize = 0;
+    while i < rows {
+        places[i] = policies::place_of(schema, p, index, list[i], n);
+        i += 1;
     }
 }
 

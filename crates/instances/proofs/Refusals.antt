@@ -1,9 +1,8 @@
 -- A refused instance file has a number that is not 0: so has each of its parts.
 -- Rests on the field laws of refusals.
-use mathlib.Core.Path.{_≡_}
+use mathlib.Core.Path.{_≡_, refl}
 use mathlib.Core.List.{List, [], _∷_}
 use Prim.Native.Nat.{ℕ, zero, suc}
-use native.Mathlib.Omega.{arith}
 use lib.ListN.{length}
 use Rattle.fields.specs.Reading.{got, bad, whole, mark}
 use Rattle.fields.proofs.Refusals.{Numbered, numbered, cond-numbered, part-numbered, whole-numbered, field-numbered, mark-numbered, ended-numbered}
@@ -15,7 +14,7 @@ use Rattle.instances.specs.File.{IH, IN, due, noneBelow, lowestDue, valu
 module _ (s : List ℕ) where
   value-numbered : (v : Variable) (p : ℕ) → Numbered (value s v p)
   unfolding value
-  value-numbered v p = field-numbered (valueWidth v) 17 (λ u. inDomain v (valueOf v u)) s p _ (λ e. omega arith) (λ u q. tt)
+  value-numbered v p = field-numbered (valueWidth v) 17 (λ u. inDomain v (valueOf v u)) s p _ refl (λ u q. tt)
 
   values-numbered : (vs : List Variable) (p : ℕ) → Numbered (values s vs p)
   unfolding values
@@ -27,13 +26,13 @@ module _ (s : List ℕ) where
   unfolding entry entryOf
   entry-numbered g es p =
       part-numbered (mark IN s p) _ (mark-numbered IN s p) (λ _ p.
-      field-numbered 1 15 (lowestDue g es) s p _ (λ e. omega arith) (λ n p.
-      field-numbered 1 16 (rightChoice (nodeAt g n)) s p _ (λ e. omega arith) (λ c p.
+      field-numbered 1 15 (lowestDue g es) s p _ refl (λ n p.
+      field-numbered 1 16 (rightChoice (nodeAt g n)) s p _ refl (λ c p.
       part-numbered (values s (nodeAt g n .variables) p) _ (values-numbered (nodeAt g n .variables) p) (λ xs p. tt))))
 
   entries-numbered : (g : List Node) (m : ℕ) (es : List Entry) (p : ℕ) → Numbered (entries s g m es p)
   unfolding entries
-  entries-numbered g zero es p = cond-numbered (noneBelow (due g es) (length g)) (got [] p) (bad 15 2) tt (λ e. omega arith)
+  entries-numbered g zero es p = cond-numbered (noneBelow (due g es) (length g)) (got [] p) (bad 15 2) tt refl
   entries-numbered g (suc m) es p =
       part-numbered (entry s g es p) _ (entry-numbered g es p) (λ e p.
       part-numbered (entries s g m (e ∷ es) p) _ (entries-numbered g m (e ∷ es) p) (λ rest p. tt))

@@ -2,13 +2,13 @@
 -- Rests on what the accessors of the schema answer.
 use mathlib.Core.Path.{_≡_, ap, sym, _∙_}
 use mathlib.Core.Bool.{Bool, true, false, cond, _&&_}
-use mathlib.Core.List.{List, _∷_}
+use mathlib.Core.List.{List}
 use Prim.Native.Nat.{ℕ, suc, _+_, _≤_, _<_}
 use native.Mathlib.Omega.{arith}
 use native.Mathlib.Nat.{zero-add}
 use borrow.Author.Tests.{eq-eqb, ne-eqb}
 use lib.ListN.{length, getD, drop}
-use Rattle.schema.specs.Schema.{Node, schemaOf, nodeAt}
+use Rattle.schema.specs.Schema.{Node, schemaOf}
 use Rattle.schema.specs.Table.{NodeIn, AtMost, SuccessorIs}
 use Rattle.schema.proofs.Accepted.{file-of}
 use Rattle.instances.proofs.Node.{links, links-more, links-none}

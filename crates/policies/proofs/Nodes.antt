@@ -21,6 +21,9 @@ nodes-few s = go (decLt 0 (length (schemaOf s)))
     go (yes h) = file-of s h .few
     go (no h) = omega arith
 
+pub node-small : (s : List ℕ) (n : ℕ) → n < length (schemaOf s) → n < 64
+node-small s n h = omega (arith, nodes-few s)
+
 pub rank-small : (s : List ℕ) (n k : ℕ) → RankIn s n k → n < 64
 rank-small s n k h = omega (arith, h .below, nodes-few s)
 

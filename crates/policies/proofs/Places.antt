@@ -3,13 +3,15 @@
 use mathlib.Core.Path.{_≡_, refl, ap, sym, _∙_, subst}
 use mathlib.Core.Bool.{Bool, true, false, cond}
 use mathlib.Core.List.{List}
-use Prim.Native.Nat.{ℕ, zero, suc, _+_, _-_, _*_, _≤_, _<_}
+use Prim.Native.Nat.{ℕ, zero, suc, _+_, _-_, _*_, _^_, _≤_, _<_}
 use native.Mathlib.Omega.{arith}
 use native.Mathlib.Nat.{add-zero, zero-add}
 use borrow.Author.Tests.{eqb-true}
 use lib.ListN.{length, getD, take, drop, length-drop}
 use lib.Seq.{take-all}
 use lib.Dec.{eqb}
+use mir.Syntax.{w64}
+use mir.Val.{Fits}
 use Rattle.schema.specs.Schema.{Node, nodeAt, schemaOf}
 use Rattle.policies.specs.Policies.{Rule, Policy, rankCount, policiesOf, policyAt, noRule, ruleFor, rankOf}
 use Rattle.policies.specs.Index.{ruleWidth, policyWidth, policyOf, Indexed, PolicyIn, RankIn}
@@ -117,6 +119,20 @@ module _ (schema p t : List ℕ) (j : ℕ) (w : PolicyIn schema p t j) where
         (sym (ap (λ (l : List ℕ). getD l (16 + 16 * n + j) 0) (w .index .filled)
         ∙ index-row (schemaOf schema) (policiesOf (schemaOf schema) p) (length t) (w .index .long) (stood (schemaOf schema) p .sound) j (w .below) n below))
         (place n (policy-here .rules))
+
+    -- the place lies in the file
+    pub place-inside : (getD t (16 + 16 * n + j) 0 ≡ 0 → ⊥) → getD t j 0 + getD t (16 + 16 * n + j) 0 ≤ length p
+    place-inside e = let z = go row e in omega (arith, rest-length, head-in)
+      where
+        rest-length : length lent ≡ length p - getD t j 0
+        rest-length = ap length (rest p (getD t j 0)) ∙ length-drop (getD t j 0) p
+
+        go : {i : ℕ} {x : Rule} → Place (schemaOf schema) lent n i x → (i ≡ 0 → ⊥) → i ≤ length lent
+        go absent e = absurd (e refl)
+        go (present a r) e = r .inside
+
+    pub place-fits : (getD t (16 + 16 * n + j) 0 ≡ 0 → ⊥) → length p < 2 ^ 64 → Fits w64 (getD t j 0 + getD t (16 + 16 * n + j) 0)
+    place-fits e m = record { fits = omega (arith, place-inside e) }
 
   module _ (n k : ℕ) (a : RankIn schema n k) where
     pub rank-none : getD t (16 + 16 * n + j) 0 ≡ 0 → 0 ≡ rankOf (policyOf schema p j) n k

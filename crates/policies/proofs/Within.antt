@@ -1,4 +1,4 @@
--- A reading that begins inside a file ends inside it, a refusal points inside it, and its number is not 0: by the definitions' own steps.
+-- A reading that begins inside a file ends inside it, a refusal points inside it and has a file's number: by the definitions' own steps.
 -- Rests on the definitions of the readings, and on fields for what a refusal's number is.
 use mathlib.Core.Path.{_≡_, refl}
 use mathlib.Core.Bool.{Bool, true, false, cond, _&&_}
@@ -9,10 +9,11 @@ use borrow.Author.Tests.{leb-true}
 use lib.ListN.{length, drop, length-drop}
 use lib.Dec.{leb, ltb, eqb}
 use Rattle.fields.specs.Reading.{Got, got, bad, part, be, whole, field, mark, many}
-use Rattle.fields.proofs.Refusals.{Numbered, numbered}
+use Rattle.fields.proofs.Refusals.{ofFile, Numbered, cond-numbered}
 use Rattle.schema.specs.Schema.{Node, nodeAt}
 use Rattle.schema.specs.declared.Variable.{Variable}
 use Rattle.schema.specs.declared.Variable.the-variants.{Number, Listed}
+use Rattle.policies.specs.Pass.{pass}
 use Rattle.policies.specs.Policies.{Policy, PH, PN, rankCount, ranks, condition, conditions, ruleOf, rule, rules, head, policy, onward, policiesFrom, policies}
 
 -- where a reading ends or a refusal points
@@ -27,10 +28,10 @@ pub record Within {A : Type 0} (n : ℕ) (r : Got A) : Type 0 where
 ends : {A : Type 0} {n : ℕ} (a : A) (q : ℕ) → q ≤ n → Within n (got a q)
 ends a q h = record { end = h; number = tt }
 
-refuses : {A : Type 0} {n : ℕ} (m o : ℕ) → (m ≡ 0 → ⊥) → o ≤ n → Within {A = A} n (bad m o)
+refuses : {A : Type 0} {n : ℕ} (m o : ℕ) → ofFile m ≡ true → o ≤ n → Within {A = A} n (bad m o)
 refuses m o k h = record { end = h; number = k }
 
-rule-within : {A : Type 0} {n : ℕ} (t : Bool) (r : Got A) (m o : ℕ) → (m ≡ 0 → ⊥) → (t ≡ true → Within n r) → o ≤ n → Within n (cond t r (bad m o))
+rule-within : {A : Type 0} {n : ℕ} (t : Bool) (r : Got A) (m o : ℕ) → ofFile m ≡ true → (t ≡ true → Within n r) → o ≤ n → Within n (cond t r (bad m o))
 rule-within true r m o k a b = a refl
 rule-within false r m o k a b = refuses m o k b
 
@@ -51,9 +52,9 @@ module _ (s : List ℕ) where
   whole-within : (w p : ℕ) → p ≤ length s → Within (length s) (whole w s p)
   unfolding whole
   whole-within w p h =
-      rule-within (leb (p + w) (length s)) (got (be w s p) (p + w)) 2 p (λ e. omega arith) (λ t. ends (be w s p) (p + w) (leb-true (p + w) (length s) t)) h
+      rule-within (leb (p + w) (length s)) (got (be w s p) (p + w)) 2 p refl (λ t. ends (be w s p) (p + w) (leb-true (p + w) (length s) t)) h
 
-  field-within : {B : Type 0} (w n : ℕ) (rule : ℕ → Bool) (p : ℕ) (k : ℕ → ℕ → Got B) → (n ≡ 0 → ⊥) → p ≤ length s
+  field-within : {B : Type 0} (w n : ℕ) (rule : ℕ → Bool) (p : ℕ) (k : ℕ → ℕ → Got B) → ofFile n ≡ true → p ≤ length s
       → ((v q : ℕ) → q ≤ length s → Within (length s) (k v q)) → Within (length s) (field w n rule s p k)
   unfolding field
   field-within w n rule p k m h z =
@@ -62,7 +63,7 @@ module _ (s : List ℕ) where
 
   mark-within : (m : List ℕ) (p : ℕ) → p ≤ length s → Within (length s) (mark m s p)
   unfolding mark
-  mark-within m p h = field-within 2 1 (λ v. eqb v (be 2 m 0)) p got (λ e. omega arith) h (λ v q r. ends v q r)
+  mark-within m p h = field-within 2 1 (λ v. eqb v (be 2 m 0)) p got refl h (λ v q r. ends v q r)
 
   ranks-within : (k p : ℕ) → p ≤ length s → Within (length s) (ranks s k p)
   unfolding ranks
@@ -73,7 +74,7 @@ module _ (s : List ℕ) where
   condition-within (Number lo hi) p h =
       part-within (whole 4 s p) _ (whole-within 4 p h)
       (λ a q r. part-within (whole 4 s q) _ (whole-within 4 q r) (λ b u y. ends _ u y))
-  condition-within (Listed size) p h = field-within 4 11 (λ m. ltb m (2 ^ size)) p _ (λ e. omega arith) h (λ v q r. ends _ q r)
+  condition-within (Listed size) p h = field-within 4 11 (λ m. ltb m (2 ^ size)) p _ refl h (λ v q r. ends _ q r)
 
   conditions-within : (vs : List Variable) (p : ℕ) → p ≤ length s → Within (length s) (conditions s vs p)
   unfolding conditions
@@ -92,14 +93,14 @@ module _ (s : List ℕ) where
   unfolding rule
   pn-within g low p h =
       part-within (mark PN s p) _ (mark-within PN p h)
-      (λ a q r. field-within 1 10 (λ n. leb low n && ltb n (length g)) q _ (λ e. omega arith) r (λ n u y. rule-of-within (nodeAt g n) n u y))
+      (λ a q r. field-within 1 10 (λ n. leb low n && ltb n (length g)) q _ refl r (λ n u y. rule-of-within (nodeAt g n) n u y))
 
   head-within : Within (length s) (head s)
   unfolding head
   head-within =
       part-within (mark PH s 0) _ (mark-within PH 0 (omega arith))
       (λ a q r. part-within (whole 2 s q) _ (whole-within 2 q r)
-      (λ first q r. field-within 2 9 (λ last. leb first last) q _ (λ e. omega arith) r
+      (λ first q r. field-within 2 9 (λ last. leb first last) q _ refl r
       (λ last q r. part-within (whole 1 s q) _ (whole-within 1 q r) (λ n q r. ends _ q r))))
 
   pub policy-within : (g : List Node) → Within (length s) (policy g s)
@@ -123,7 +124,7 @@ module _ (g : List Node) (s : List ℕ) where
   policies-within zero p h = go (ltb p (length s))
     where
       go : (b : Bool) → Within {A = List Policy} (length s) (cond b (bad 8 p) (got [] p))
-      go true = refuses 8 p (λ e. omega arith) h
+      go true = refuses 8 p refl h
       go false = ends [] p h
   policies-within (suc k) p h =
       go (ltb p (length s))
@@ -134,7 +135,10 @@ module _ (g : List Node) (s : List ℕ) where
       go true w = w
       go false w = ends [] p h
 
-  -- a refusal's number is not 0
-  pub refusal-number : {n o : ℕ} → policies g s ≡ bad n o → n ≡ 0 → ⊥
+  pub policies-numbered : Numbered (policies g s)
   unfolding policies
-  refusal-number e = numbered (policies-within 16 0 (omega arith) .number) e
+  policies-numbered = policies-within 16 0 (omega arith) .number
+
+pub pass-numbered : (a b : ℕ) → Numbered (pass a b)
+unfolding pass
+pass-numbered a b = cond-numbered (leb a b && leb b (a + 1)) (got a 0) (bad 12 0) tt refl

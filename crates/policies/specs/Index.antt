@@ -1,8 +1,10 @@
 -- Where the policies of an accepted file speak of each node.
 use Prim.Native.Nat.{ℕ, zero, suc, _+_, _*_, _<_, _≤_}
 use mathlib.Core.Path.{_≡_}
+use mathlib.Core.Bool.{cond}
 use mathlib.Core.List.{List, [], _∷_}
-use lib.ListN.{length, set, replicate}
+use lib.ListN.{length, getD, set, replicate}
+use lib.Dec.{eqb}
 use Rattle.schema.specs.Schema.{Node, schemaOf, nodeAt}
 use Rattle.schema.specs.Table.{Tabled}
 use Rattle.schema.specs.declared.Variable.{Variable}
@@ -63,6 +65,10 @@ indexOf m ps = fillPolicies 0 0 ps (replicate m 0)
 pub record SchemaIn (s t : List ℕ) (count : ℕ) : Type 0 where
   pub table : Tabled s t
   pub counted : count ≡ length (schemaOf s)
+
+-- where policy j speaks of node n in the file: where its ranks begin, 0 for nowhere
+unfoldable pub placeIn : List ℕ → ℕ → ℕ → ℕ
+placeIn index j n = cond (eqb (getD index (16 + 16 * n + j) 0) 0) 0 (getD index j 0 + getD index (16 + 16 * n + j) 0)
 
 -- policy j of the file p, under the schema file s
 abbrev pub policyOf : List ℕ → List ℕ → ℕ → Policy

@@ -7,7 +7,8 @@ use lib.Dec.{leb}
 use lib.ListN.{length}
 use Rattle.fields.specs.Writing.{put}
 use Rattle.fields.specs.Reading.{Got, got, bad}
-use Rattle.policies.specs.Policies.{Policy}
+use Rattle.schema.specs.Schema.{schemaOf}
+use Rattle.policies.specs.Policies.{Policy, policiesOf}
 
 -- '12 b below a or above a + 1; offset 0'; what is read is the first day
 unfoldable pub pass : ℕ → ℕ → Got ℕ
@@ -31,3 +32,7 @@ positions a b j (x ∷ xs) = cond (inForce a b x) (j ∷ positions a b (j + 1) x
 pub record Listing (js t₀ t : List ℕ) (n : ℕ) : Type 0 where
   pub list : t ≡ put t₀ 0 js
   pub count : n ≡ length js
+
+-- the first n of the list t are the positions of the policies in force in the file p: to list them again changes nothing
+abbrev pub InForce : List ℕ → List ℕ → List ℕ → ℕ → ℕ → ℕ → Type 0
+InForce schema p t n a b = Listing (positions a b 0 (policiesOf (schemaOf schema) p)) t t n

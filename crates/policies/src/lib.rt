@@ -10,7 +10,7 @@ ghost use Rattle.schema.specs.Schema.{schemaOf, nodeAt};
 ghost use Rattle.schema.specs.Table.{NodeIn, AtMost};
 ghost use Rattle.policies.specs.Policies.{rankCount, rankOf, policiesOf};
 ghost use Rattle.policies.specs.Pass.{pass, inForce, positions, Listing};
-ghost use Rattle.policies.specs.Index.{policyOf, Indexed, PolicyIn, RankIn};
+ghost use Rattle.policies.specs.Index.{policyOf, placeIn, Indexed, PolicyIn, RankIn};
 use fields::Step;
 
 // The number of ranks that node n has in a PN.
@@ -116,4 +116,14 @@ pub fn rank_of(schema: &[u8], p: &[u8], index: &[usize], j: usize, n: usize, k: 
     }
     let head = index[j];
     byte_at(&p[head..], at, k)
+}
+
+// Where policy j speaks of node n in the file: where its ranks begin, 0 for nowhere.
+pub fn place_of(schema: &[u8], p: &[u8], index: &[usize], j: usize, n: usize) -> usize
+    requires { ⌜ PolicyIn (now schema) (now p) (now index) j ⌝ }
+    requires { ⌜ n < length (schemaOf (now schema)) ⌝ }
+    ensures { λ r. ⌜ r ≡ placeIn (now (index .entry)) j n ⌝ }
+{
+    let from = index[16 + 16 * n + j];
+    if from == 0 { 0 } else { index[j] + from }
 }

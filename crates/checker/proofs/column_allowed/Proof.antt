@@ -1,11 +1,13 @@
 -- The policies from here on are left to ask.
 -- Rests on the laws of the loop over the rows, in Choices.
+use native.Mathlib.Omega.{arith}
 use borrow.Author.Needs.{needs}
 use Prim.Native.Nat.{_-_}
 use Rattle.schema.specs.Schema.{schemaOf}
 use Rattle.policies.specs.Policies.{policiesOf}
 use Rattle.policies.specs.Pass.{forced}
-use Rattle.checker.proofs.Choices.{Asking, asking-none, asking-policy, asking-no, asking-on, asking-done}
+use Rattle.policies.proofs.Above.{force-few, force-in, force-row}
+use Rattle.checker.proofs.Choices.{Asking, asking-none, asking-no, asking-on, asking-done}
 use Rattle.checker.proofs.column_allowed.Statement.{statement}
 use Rattle.checker.proofs.column_allowed.Tie as tie
 
@@ -19,13 +21,13 @@ loop-holds : tie.Need-loop-holds Inv-loop μ-loop
 loop-holds c = search asking-none
 
 mul-rank-of : tie.Need-mul-rank-of Inv-loop μ-loop
-mul-rank-of c = search needs
+mul-rank-of c = omega (arith, force-few)
 
 element-copy-out-rank-of : tie.Need-element-copy-out-rank-of Inv-loop μ-loop
-element-copy-out-rank-of c = search needs
+element-copy-out-rank-of c = search force-row
 
 rank-of-requires : tie.Need-rank-of-requires Inv-loop μ-loop
-rank-of-requires c κs = search (asking-policy, needs)
+rank-of-requires c κs = (search force-in, search needs)
 
 returns : tie.Need-returns Inv-loop μ-loop
 returns c = search asking-no

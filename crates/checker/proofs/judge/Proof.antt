@@ -1,6 +1,6 @@
 -- The field that the walk found is the answer.
--- Rests on the list of the policies in force, in Listed, and on Answers.
-use Rattle.conditions.proofs.Listed.{listed}
+-- Rests on the list of the policies in force, in Above, and on Answers.
+use Rattle.policies.proofs.Above.{listed}
 use Rattle.checker.proofs.Answers.{answering}
 use borrow.Author.Needs.{needs}
 use Rattle.checker.proofs.judge.Statement.{statement}

@@ -1,11 +1,12 @@
 -- What the policies in force from row r on decide is what all decide.
 -- Rests on the laws of the loop over the rows, in Better.
+use native.Mathlib.Omega.{arith}
 use borrow.Author.Needs.{needs}
 use Prim.Native.Nat.{_-_}
 use Rattle.schema.specs.Schema.{schemaOf}
 use Rattle.policies.specs.Policies.{policiesOf}
 use Rattle.policies.specs.Pass.{forced}
-use Rattle.comparison.proofs.Better.{row-in, row-few, Deciding, deciding-start, better-less, better-more, better-on, better-done}
+use Rattle.comparison.proofs.Better.{rows-few, row-in, row-few, Deciding, deciding-start, better-less, better-more, better-on, better-done}
 use Rattle.comparison.proofs.is_better.Statement.{statement}
 use Rattle.comparison.proofs.is_better.Tie as tie
 
@@ -25,7 +26,7 @@ loop-holds : tie.Need-loop-holds Inv-loop μ-loop
 loop-holds c = search deciding-start
 
 mul-rank-at : tie.Need-mul-rank-at Inv-loop μ-loop
-mul-rank-at c = search (row-few, needs)
+mul-rank-at c = omega (arith, rows-few)
 
 element-copy-out-rank-at : tie.Need-element-copy-out-rank-at Inv-loop μ-loop
 element-copy-out-rank-at c = search row-few
@@ -34,7 +35,7 @@ rank-at-requires : tie.Need-rank-at-requires Inv-loop μ-loop
 rank-at-requires c κs = search (row-in, needs)
 
 mul-rank-at-2 : tie.Need-mul-rank-at-2 Inv-loop μ-loop
-mul-rank-at-2 c = search (row-few, needs)
+mul-rank-at-2 c = omega (arith, rows-few)
 
 element-copy-out-rank-at-2 : tie.Need-element-copy-out-rank-at-2 Inv-loop μ-loop
 element-copy-out-rank-at-2 c = search row-few

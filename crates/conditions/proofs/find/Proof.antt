@@ -1,37 +1,39 @@
 -- The rows from here on are left.
 -- Rests on the laws of a row, in Finding.
 use Prim.Native.Nat.{_-_}
-use Rattle.conditions.proofs.Finding.{Finding, finding-none, finding-policy, finding-more, finding-done}
+use Rattle.conditions.proofs.Finding.{Finding, finding-none, finding-more, finding-done}
+use Rattle.policies.proofs.Above.{force-few, force-in, force-row}
+use native.Mathlib.Omega.{arith}
 use borrow.Author.Needs.{needs}
 use Rattle.conditions.proofs.find.Statement.{statement}
 use Rattle.conditions.proofs.find.Tie as tie
 
 abbrev Inv-loop : tie.InvT-loop
-Inv-loop schema p index list rows a b n places₀ r₀ places r = Finding index list n rows r places₀ places
+Inv-loop schema p index list rows a b n places₀ i₀ places i = Finding index list n rows i places₀ places
 
 abbrev μ-loop : tie.MeasureT-loop
-μ-loop schema p index list rows a b n places₀ r₀ places r = rows - r
+μ-loop schema p index list rows a b n places₀ i₀ places i = rows - i
 
 loop-holds : tie.Need-loop-holds Inv-loop μ-loop
 loop-holds c = search finding-none
 
 mul-place-of : tie.Need-mul-place-of Inv-loop μ-loop
-mul-place-of c = search needs
+mul-place-of c = omega (arith, force-few)
 
 element-copy-out-place-of : tie.Need-element-copy-out-place-of Inv-loop μ-loop
-element-copy-out-place-of c = search needs
+element-copy-out-place-of c = search force-row
 
 place-of-requires : tie.Need-place-of-requires Inv-loop μ-loop
-place-of-requires c κs = search (finding-policy, needs)
+place-of-requires c κs = (search force-in, search needs)
 
 mul-places : tie.Need-mul-places Inv-loop μ-loop
-mul-places c = search needs
+mul-places c = omega (arith, force-few)
 
 element-write-places : tie.Need-element-write-places Inv-loop μ-loop
-element-write-places c = search needs
+element-write-places c = search force-row
 
-add-r : tie.Need-add-r Inv-loop μ-loop
-add-r c = search needs
+add-i : tie.Need-add-i Inv-loop μ-loop
+add-i c = search needs
 
 loop-less : tie.Need-loop-less Inv-loop μ-loop
 loop-less c = search needs
@@ -54,7 +56,7 @@ find-spec =
     place-of-requires
     mul-places
     element-write-places
-    add-r
+    add-i
     loop-less
     loop-again
     returns)

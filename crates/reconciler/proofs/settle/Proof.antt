@@ -1,6 +1,6 @@
 -- The policies in force are listed, then it is settled under them.
--- Rests on the list's law, of conditions.
-use Rattle.conditions.proofs.Listed.{listed}
+-- Rests on listed, in Above of policies.
+use Rattle.policies.proofs.Above.{listed}
 use borrow.Author.Needs.{needs}
 use Rattle.reconciler.proofs.settle.Statement.{statement}
 use Rattle.reconciler.proofs.settle.Tie as tie
