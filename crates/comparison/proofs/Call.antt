@@ -1,5 +1,5 @@
 -- The call, file by file: one law for each way that a reading can end, then the verdict.
--- Rests on what the readers' contracts tell, and on Listed for the policies in force.
+-- Rests on what the readers' contracts tell, and on listed, of policies, for those in force.
 use mathlib.Core.Path.{_≡_, ap, ap₂, _∙_}
 use mathlib.Core.Bool.{Bool}
 use mathlib.Core.List.{List}

@@ -1,5 +1,5 @@
 -- 'At least as good' at a node, by a table of flags of the nodes above it.
--- Rests on what the schema's accessors answer, and on `good-by-table` of the model.
+-- Rests on the model's clauses, and on that no successor is better than itself.
 use mathlib.Core.Path.{_≡_, refl, ap, sym, _∙_}
 use mathlib.Core.Bool.{Bool, true, false, _||_}
 use mathlib.Core.List.{List}

@@ -24,6 +24,14 @@ mul-from-2 c = omega (arith, policy-few, node-small _ _ (c .pre .1))
 shared-slice-read-from : tie.Need-shared-slice-read-from
 shared-slice-read-from c = omega (arith, policy-few, policy-long)
 
+returns : tie.Need-returns
+unfolding placeIn
+returns c = search tests
+
+returns-2 : tie.Need-returns-2
+unfolding placeIn
+returns-2 c = search tests
+
 mul-result : tie.Need-mul-result
 mul-result c = omega (arith, policy-few)
 
@@ -32,14 +40,6 @@ shared-slice-read-result c = omega (arith, policy-few, policy-long)
 
 add-result : tie.Need-add-result
 add-result c = search (place-fits, needs)
-
-returns : tie.Need-returns
-unfolding placeIn
-returns c = search tests
-
-returns-2 : tie.Need-returns-2
-unfolding placeIn
-returns-2 c = search tests
 
 pub place-of-spec : {M : Type 1} → statement M
 place-of-spec =
