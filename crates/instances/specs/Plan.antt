@@ -1,10 +1,10 @@
 -- The instance that a plan makes: a plan has an entry for each node, and those that are reached are taken.
-use Prim.Native.Nat.{ℕ, zero, suc, _+_, _*_}
+use Prim.Native.Nat.{ℕ, zero, suc, _+_, _*_, _≤_}
 use mathlib.Core.List.{List, [], _∷_}
 use mathlib.Core.Bool.{cond}
 use lib.ListN.{length, getD}
 use lib.IntN.{ℤ}
-use Rattle.schema.specs.Schema.{Node, nodeAt}
+use Rattle.schema.specs.Schema.{Node, schemaOf, nodeAt}
 use Rattle.schema.specs.declared.Variable.{Variable}
 use Rattle.instances.specs.Instance.{Entry}
 use Rattle.instances.specs.File.{reached, valueOf}
@@ -27,3 +27,7 @@ valuesFrom (v ∷ vs) bits k = valueOf v (getD bits k 0) ∷ valuesFrom vs bits 
 unfoldable pub planOf : List Node → List ℕ → List ℕ → ℕ → Entry
 planOf g choices bits n =
     record { node = n; choice = getD choices n 0; values = valuesFrom (nodeAt g n .variables) bits (4 * n) }
+
+-- room for the bits of four values of each node, whatever stands there
+pub record BitsRoom (schema bits : List ℕ) : Type 0 where
+  pub long : 4 * length (schemaOf schema) ≤ length bits

@@ -1,10 +1,10 @@
 -- The call: files and pass in turn, then the plan's file placed in the buffer, or 13.
 -- Rests on the readers' contracts, on what the passes leave, and on the model's answer-by-plan.
 use mathlib.Core.Path.{_≡_, refl, ap, ap₂, sym, subst, _∙_}
-use mathlib.Core.Bool.{true, false}
+use mathlib.Core.Bool.{Bool, true, false, cond}
 use mathlib.Core.List.{List, _++_}
-use mathlib.Core.Option.{some}
-use Prim.Native.Nat.{ℕ, _≤_, _<_}
+use mathlib.Core.Option.{Option, none, some}
+use Prim.Native.Nat.{ℕ, _*_, _≤_, _<_}
 use native.Mathlib.Omega.{arith}
 use native.Mathlib.Nat.{zero-add}
 use borrow.Author.Tests.{eq-eqb, ne-eqb, le-leb}
@@ -19,7 +19,7 @@ use Rattle.fields.specs.declared.Step.{Step}
 use Rattle.fields.specs.declared.Step.the-variants.{Next, Bad}
 use Rattle.fields.proofs.Bytes.{Bytes}
 use Rattle.fields.proofs.Reading.{stepped, stopped}
-use Rattle.schema.specs.Schema.{schema, schemaOf}
+use Rattle.schema.specs.Schema.{Node, schema, schemaOf}
 use Rattle.schema.specs.Table.{Tabled, Accepted, AtMost}
 use Rattle.schema.proofs.Sound.{Sound}
 use Rattle.schema.proofs.Accepted.{sound, schema-got}
@@ -32,14 +32,14 @@ use Rattle.policy_reader.specs.declared.PoliciesRead.{PoliciesRead}
 use Rattle.policy_reader.specs.declared.PoliciesRead.the-variants.{Policies, Refused}
 use Rattle.instances.specs.Instance.{Entry}
 use Rattle.instances.specs.File.{encode}
-use Rattle.instances.specs.Plan.{planned, planOf}
+use Rattle.instances.specs.Plan.{planned, planOf, BitsRoom}
 use Rattle.writer.proofs.Writer.{written-most, written-is}
 use Rattle.model.specs.Reconciling.{can, plan, reconcile, reconciled}
 use Rattle.model.proofs.Reconciler.{answer-by-plan}
 use Rattle.model.proofs.Right.{lawful}
 use Rattle.order.specs.Order.{inSet}
 use Rattle.calls.specs.Calls.{given, reconcilingUnder, reconciling}
-use Rattle.reconciler.specs.Plan.{rulesIn, Planned}
+use Rattle.reconciler.specs.Plan.{rulesIn, Planned, plannedIn}
 
 -- ---- the file of a plan
 
@@ -63,10 +63,22 @@ module _ (schema : List ℕ) (choices bits file c : List ℕ) {n : ℕ}
       rw (le-leb (length bs) (length file) l)
       (record { answer = ap success e; buffer = w .holds ∙ ap (λ (i : ℕ). bs ++ drop i file) (zero-add (length bs)) })
 
+-- ---- the instance that the tables hold
+
+module _ (g : List Node) (nodes choices bits out : List ℕ) where
+  pub held-root : {r : Answer} {after : List ℕ} → getD nodes 0 0 ≡ 1 → Did (placed (encode g (planned g (planOf g choices bits))) out) r after
+      → Did (given g out (plannedIn g nodes choices bits)) r after
+  unfolding given plannedIn
+  held-root e k = rw (eq-eqb (getD nodes 0 0) 1 e) k
+
+  pub no-root : (getD nodes 0 0 ≡ 1 → ⊥) → Did (given g out (plannedIn g nodes choices bits)) (refusal 13 0 0) out
+  unfolding given plannedIn
+  no-root e = rw (ne-eqb (getD nodes 0 0) 1 e) (record { answer = refl; buffer = refl })
+
 -- ---- the tables before the first node
 
-pub planned-none : (s t p : List ℕ) (a b : ℕ) {count : ℕ} → SchemaIn s t count → Planned s p a b count (replicate 64 0) (replicate 64 255) (replicate 256 0)
-planned-none s t p a b {count} e =
+pub planned-none : (s t p : List ℕ) (a b : ℕ) (bits : List ℕ) {count : ℕ} → SchemaIn s t count → BitsRoom s bits → Planned s p a b count (replicate 64 0) (replicate 64 255) bits
+planned-none s t p a b bits {count} e r =
     record {
       met = λ m x y. absurd (omega (arith, e .counted));
       choice = λ m x y. absurd (omega (arith, e .counted));
@@ -74,7 +86,7 @@ planned-none s t p a b {count} e =
       blank = λ m x. (getD-replicate {A = ℕ} 64 m 0 0 (small m x), getD-replicate {A = ℕ} 64 m 255 0 (small m x));
       nodes-long = length-replicate {A = ℕ} 64 0;
       choices-long = length-replicate {A = ℕ} 64 255;
-      bits-long = length-replicate {A = ℕ} 256 0;
+      bits-room = r;
     }
   where
     small : (m : ℕ) → m < count → m < 64
@@ -94,19 +106,20 @@ module _ (s p : List ℕ) (a b : ℕ) (nodes choices bits : List ℕ) (A : Accep
   same-plan n h t =
       ap₂ (λ (x : ℕ) (xs : List ℤ). record { node = n; choice = x; values = xs }) (sym (w .choice n (omega arith) h t)) (sym (w .values n (omega arith) h t))
 
-  pub settled : (out : List ℕ) {r : Answer} {after : List ℕ} → getD nodes 0 0 ≡ 1 → Did (placed (encode (schemaOf s) (planned (schemaOf s) (planOf (schemaOf s) choices bits))) out) r after
-      → Did (given (schemaOf s) out (reconciled (schemaOf s) (forced a b (policiesOf (schemaOf s) p)))) r after
-  unfolding given reconciled reconcile
-  settled out {r} {after} e k =
-      let t : can (schemaOf s) (rulesIn s p a b) 0 ≡ true = sym root ∙ eq-eqb (getD nodes 0 0) 1 e in
-      let q = answer-by-plan (schemaOf s) S (rulesIn s p a b) (lawful (schemaOf s) S (forced a b (policiesOf (schemaOf s) p))) t (planOf (schemaOf s) choices bits) same-plan in
-      rw t (subst (λ (i : List Entry). Did (placed (encode (schemaOf s) i) out) r after) (sym q) k)
+  same-instance : plannedIn (schemaOf s) nodes choices bits ≡ reconciled (schemaOf s) (forced a b (policiesOf (schemaOf s) p))
+  unfolding plannedIn reconciled reconcile
+  same-instance =
+      ap (λ (t : Bool). cond t (some (planned (schemaOf s) (planOf (schemaOf s) choices bits))) none) root
+      ∙ go (can (schemaOf s) (rulesIn s p a b) 0) refl
+    where
+      go : (t : Bool) → can (schemaOf s) (rulesIn s p a b) 0 ≡ t
+          → _≡_ {A = Option (List Entry)} (cond t (some (planned (schemaOf s) (planOf (schemaOf s) choices bits))) none) (cond t (some (planned (schemaOf s) (plan (schemaOf s) (rulesIn s p a b)))) none)
+      go true e = ap {B = Option (List Entry)} some (sym (answer-by-plan (schemaOf s) S (rulesIn s p a b) (lawful (schemaOf s) S (forced a b (policiesOf (schemaOf s) p))) e (planOf (schemaOf s) choices bits) same-plan))
+      go false e = refl
 
-  pub unsettled : (out : List ℕ) → (getD nodes 0 0 ≡ 1 → ⊥) → Did (given (schemaOf s) out (reconciled (schemaOf s) (forced a b (policiesOf (schemaOf s) p)))) (refusal 13 0 0) out
-  unfolding given reconciled reconcile
-  unsettled out e =
-      let t : can (schemaOf s) (rulesIn s p a b) 0 ≡ false = sym root ∙ ne-eqb (getD nodes 0 0) 1 e in
-      rw t (record { answer = refl; buffer = refl })
+  pub settled : (out : List ℕ) {r : Answer} {after : List ℕ} → Did (given (schemaOf s) out (plannedIn (schemaOf s) nodes choices bits)) r after
+      → Did (given (schemaOf s) out (reconciled (schemaOf s) (forced a b (policiesOf (schemaOf s) p)))) r after
+  settled out {r} {after} k = subst (λ (i : Option (List Entry)). Did (given (schemaOf s) out i) r after) same-instance k
 
 -- ---- policies and pass
 
@@ -153,3 +166,18 @@ module _ (s p out : List ℕ) (a b : ℕ) {x : Step} (e : x ≡ stepOf (schema s
 
 pub schema-in : (s t : List ℕ) {count : ℕ} → Tabled s t → AtMost 64 (length (schemaOf s)) count → SchemaIn s t count
 schema-in s t e m = record { table = e; counted = m .is }
+
+-- ---- room for the bits of the values
+
+module _ (s : List ℕ) {count : ℕ} (e : AtMost 64 (length (schemaOf s)) count) where
+  bits-room : (k : ℕ) → 4 * count ≤ k → BitsRoom s (replicate k 0)
+  bits-room k h = record { long = omega (arith, e .is, length-replicate {A = ℕ} k 0) }
+
+  pub bits-4 : count ≤ 4 → BitsRoom s (replicate 16 0)
+  bits-4 h = bits-room 16 (omega arith)
+
+  pub bits-16 : count ≤ 16 → BitsRoom s (replicate 64 0)
+  bits-16 h = bits-room 64 (omega arith)
+
+  pub bits-64 : BitsRoom s (replicate 256 0)
+  bits-64 = bits-room 256 (omega (arith, e .most))

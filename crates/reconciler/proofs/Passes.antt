@@ -83,7 +83,7 @@ module _ (schema table p : List ℕ) (a b n : ℕ) (nodes choices bits after : L
         blank = λ m x. let k = w .blank m (omega arith) in let o = f m (λ y. omega arith) in (o .0 ∙ k .0, o .1 ∙ k .1);
         nodes-long = ln;
         choices-long = lc;
-        bits-long = q .long ∙ w .bits-long;
+        bits-room = record { long = omega (arith, q .long, w .bits-room .long) };
       }
     where
       met : (m : ℕ) → n - 1 ≤ m → m < length (schemaOf schema) → Dec (n - 1 < m) → inSet nodes' m ≡ can (schemaOf schema) (rulesIn schema p a b) m
@@ -130,6 +130,9 @@ module _ (schema table p : List ℕ) (a b n : ℕ) (nodes choices bits after : L
 
   pub pass-small : {k : ℕ} → r ≡ Take k → k < 256
   pass-small e = subst (λ (x : Plan). choiceBy x < 256) e (q .small)
+
+pub pass-long : (schema p : List ℕ) (a b n : ℕ) (nodes bits₀ bits after : List ℕ) {r : Plan} → length bits ≡ length bits₀ → NodePlanned schema p a b n nodes bits after r → length after ≡ length bits₀
+pass-long schema p a b n nodes bits₀ bits after e q = q .long ∙ e
 
 pub pass-done : (schema p : List ℕ) (a b n : ℕ) (nodes choices bits : List ℕ) → Planned schema p a b n nodes choices bits → n ≤ 0 → Planned schema p a b 0 nodes choices bits
 pass-done schema p a b n nodes choices bits w h = let z : n ≡ 0 = omega arith in subst (λ (m : ℕ). Planned schema p a b m nodes choices bits) z w

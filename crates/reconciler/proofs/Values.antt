@@ -26,10 +26,9 @@ use Rattle.schema.specs.Schema.{Node, schemaOf, nodeAt, noVariable, isNumber}
 use Rattle.schema.specs.Table.{NodeIn, AtMost}
 use Rattle.schema.specs.declared.Variable.{Variable}
 use Rattle.schema.specs.declared.Variable.the-variants.{Number, Listed}
-use Rattle.schema.proofs.Access.{node-small}
 use Rattle.policies.specs.Policies.{mask}
 use Rattle.instances.specs.File.{valueOf}
-use Rattle.instances.specs.Plan.{valuesFrom}
+use Rattle.instances.specs.Plan.{valuesFrom, BitsRoom}
 use Rattle.model.specs.Reconciling.{isSome, least, leastEach, withFirst}
 use Rattle.conditions.specs.Held.{conditionIn, conditionsIn}
 use Rattle.conditions.specs.declared.Conditions.{Conditions}
@@ -154,9 +153,8 @@ module _ (s table : List ℕ) (n : ℕ) (c : Conditions) (t₀ : List ℕ) (k : 
       (ap (λ (i : ℕ). least (conditionIn c (getD (nodeAt (schemaOf s) n .variables) k noVariable) i)) (zero-add k) ∙ nothing-is c (getD (nodeAt (schemaOf s) n .variables) k noVariable) k e d z) in
       record { found = sym (ap isSome q); values = λ y. never y; others = w .others; long = w .long }
 
-  pub finding-more : {u : ℕ} → r ≡ Value u → length t₀ ≡ 256 → Finding (schemaOf s) n c t₀ (k + 1) (set t (4 * n + k) u)
+  pub finding-more : {u : ℕ} → r ≡ Value u → BitsRoom s t₀ → Finding (schemaOf s) n c t₀ (k + 1) (set t (4 * n + k) u)
   finding-more {u} z y =
-      let p = node-small s table n h in
       let q = m .most in
       record {
         upto = omega (arith, m .is);
@@ -175,10 +173,13 @@ module _ (s table : List ℕ) (n : ℕ) (c : Conditions) (t₀ : List ℕ) (k : 
           w .so-far i x ∙ ap {B = Option ℤ} (λ (j : ℕ). some (valueOf (getD (nodeAt (schemaOf s) n .variables) i noVariable) j)) (sym (getD-set-other t (4 * n + k) (4 * n + i) u 0 (λ y. omega arith)))
       one i a (no x) =
           let j : i ≡ k = omega arith in
-          let p = node-small s table n h in
           let q = m .most in
           rw j (value-is c (getD (nodeAt (schemaOf s) n .variables) k noVariable) k e d z
-          ∙ ap {B = Option ℤ} (λ (j : ℕ). some (valueOf (getD (nodeAt (schemaOf s) n .variables) k noVariable) j)) (sym (getD-set-same t (4 * n + k) u 0 (omega (arith, w .long)))))
+          ∙ ap {B = Option ℤ} (λ (j : ℕ). some (valueOf (getD (nodeAt (schemaOf s) n .variables) k noVariable) j)) (sym (getD-set-same t (4 * n + k) u 0 (omega (arith, w .long, y .long, h .below)))))
+
+pub finding-place : (s table : List ℕ) (n : ℕ) (c : Conditions) (t₀ : List ℕ) (k : ℕ) (t : List ℕ) {v : ℕ} → Finding (schemaOf s) n c t₀ k t → NodeIn s table n → AtMost 4 (length (nodeAt (schemaOf s) n .variables)) v → k < v
+    → BitsRoom s t₀ → 4 * n + k < length t
+finding-place s table n c t₀ k t w h m l r = omega (arith, w .long, m .most, r .long, h .below)
 
 pub finding-done : (s : List ℕ) (n : ℕ) (c : Conditions) (t₀ : List ℕ) (k : ℕ) (t : List ℕ) {v : ℕ} → Finding (schemaOf s) n c t₀ k t → AtMost 4 (length (nodeAt (schemaOf s) n .variables)) v → v ≤ k
     → LeastIn (schemaOf s) n c t₀ t true

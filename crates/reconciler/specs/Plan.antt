@@ -15,8 +15,8 @@ use Rattle.fields.specs.Writing.{unsigned}
 use Rattle.schema.specs.Schema.{Node, schemaOf, nodeAt}
 use Rattle.policies.specs.Policies.{Policy, rankOf, rankCount, policiesOf, policyAt}
 use Rattle.policies.specs.Pass.{forced}
-use Rattle.instances.specs.Instance.{chooses}
-use Rattle.instances.specs.Plan.{valuesFrom}
+use Rattle.instances.specs.Instance.{Entry, chooses}
+use Rattle.instances.specs.Plan.{planned, valuesFrom, planOf, BitsRoom}
 use Rattle.model.specs.Reconciling.{isSome, leastEach, Rules, taken, canStep, can, plan, rulesOf}
 use Rattle.order.specs.Order.{rankIn, inSet}
 use Rattle.conditions.specs.Held.{conditionsIn}
@@ -114,4 +114,8 @@ pub record Planned (schema p : List ℕ) (a b n : ℕ) (nodes choices bits : Lis
   pub blank : (m : ℕ) → m < n → (getD nodes m 0 ≡ 0) × (getD choices m 0 ≡ 255)
   pub nodes-long : length nodes ≡ 64
   pub choices-long : length choices ≡ 64
-  pub bits-long : length bits ≡ 256
+  pub bits-room : BitsRoom schema bits
+
+-- the instance that the tables hold: none where they do not have the root
+unfoldable pub plannedIn : List Node → List ℕ → List ℕ → List ℕ → Option (List Entry)
+plannedIn g nodes choices bits = cond (inSet nodes 0) (some (planned g (planOf g choices bits))) none

@@ -9,11 +9,11 @@ ghost use Rattle.policies.specs.Policies.{policiesOf, policyAt, rankCount, rank
 ghost use Rattle.policies.specs.Pass.{forced, InForce};
 ghost use Rattle.policies.specs.Index.{IndexIn, Indexed, IndexRoom, SchemaIn};
 ghost use Rattle.instances.specs.File.{encode};
-ghost use Rattle.instances.specs.Plan.{planned, planOf};
+ghost use Rattle.instances.specs.Plan.{planned, planOf, BitsRoom};
 ghost use Rattle.model.specs.Reconciling.{reconciled};
 ghost use Rattle.conditions.specs.Places.{SaidAt, Found};
 ghost use Rattle.calls.specs.Calls.{given, reconcilingUnder, reconciling};
-ghost use Rattle.reconciler.specs.Plan.{LeftIs, LeastIn, Columns, Ranked, RowCopied, RowFilled, SuccessorsIn, Chosen, NodePlanned, Planned};
+ghost use Rattle.reconciler.specs.Plan.{LeftIs, LeastIn, Columns, Ranked, RowCopied, RowFilled, SuccessorsIn, Chosen, NodePlanned, Planned, plannedIn};
 use conditions::Conditions;
 use fields::Answer;
 use fields::Step;
@@ -56,15 +56,9 @@ fn left_in(c: Conditions, k: usize, number: bool) -> Left
 }
 
 // The bits of node n's least values into its four places; whether each variable has one left.
-fn least_values(
-    schema: &[u8],
-    table: &[usize],
-    n: usize,
-    c: Conditions,
-    bits: &mut [u32; 256],
-) -> bool
+fn least_values(schema: &[u8], table: &[usize], n: usize, c: Conditions, bits: &mut [u32]) -> bool
     requires { ⌜ NodeIn (now schema) (now table) n ⌝ }
-    requires { ⌜ length (now bits) ≡ 256 ⌝ }
+    requires { ⌜ BitsRoom (now schema) (now bits) ⌝ }
     ensures { λ r. ⌜ LeastIn (schemaOf (now (schema .entry))) n c (now (bits .entry)) (now (bits .exit)) r ⌝ }
 {
     let v = nodes::variable_count(schema, table, n);
@@ -222,11 +216,11 @@ fn plan_at(
     b: u16,
     n: usize,
     nodes: &[u8; 64],
-    bits: &mut [u32; 256],
+    bits: &mut [u32],
 ) -> Plan
     requires { ⌜ NodeIn (now schema) (now table) n ⌝ }
     requires { ⌜ Found (now schema) (now p) a b n rows (now places) ⌝ }
-    requires { ⌜ length (now bits) ≡ 256 ⌝ }
+    requires { ⌜ BitsRoom (now schema) (now bits) ⌝ }
     ensures { λ r. ⌜ NodePlanned (now (schema .entry)) (now (p .entry)) a b n (now (nodes .entry)) (now (bits .entry)) (now (bits .exit)) r ⌝ }
 {
     let c = conditions::combine(schema, table, p, places, rows, a, b, n);
@@ -261,12 +255,12 @@ fn plan_node(
     b: u16,
     n: usize,
     nodes: &[u8; 64],
-    bits: &mut [u32; 256],
+    bits: &mut [u32],
 ) -> Plan
     requires { ⌜ NodeIn (now schema) (now table) n ⌝ }
     requires { ⌜ IndexIn (now schema) (now p) (now index) ⌝ }
     requires { ⌜ InForce (now schema) (now p) (now list) rows a b ⌝ }
-    requires { ⌜ length (now bits) ≡ 256 ⌝ }
+    requires { ⌜ BitsRoom (now schema) (now bits) ⌝ }
     ensures { λ r. ⌜ NodePlanned (now (schema .entry)) (now (p .entry)) a b n (now (nodes .entry)) (now (bits .entry)) (now (bits .exit)) r ⌝ }
 {
     let mut places = [0usize; 16];
@@ -287,7 +281,7 @@ fn plan_all(
     b: u16,
     nodes: &mut [u8; 64],
     choices: &mut [u8; 64],
-    bits: &mut [u32; 256],
+    bits: &mut [u32],
 )
     requires { ⌜ SchemaIn (now schema) (now table) count ⌝ }
     requires { ⌜ IndexIn (now schema) (now p) (now index) ⌝ }
@@ -316,12 +310,13 @@ fn write_short(
     schema: &[u8],
     table: &[usize],
     choices: &[u8; 64],
-    bits: &[u32; 256],
+    bits: &[u32],
     file: &mut [u8],
     out: &mut [u8],
 ) -> Answer
     requires { ⌜ Accepted (now schema) ⌝ }
     requires { ⌜ Tabled (now schema) (now table) ⌝ }
+    requires { ⌜ BitsRoom (now schema) (now bits) ⌝ }
     requires { ⌜ 1283 ≤ length (now file) ⌝ }
     ensures { λ r. ⌜ Did (placed (encode (schemaOf (now (schema .entry))) (planned (schemaOf (now (schema .entry))) (planOf (schemaOf (now (schema .entry))) (now (choices .entry)) (now (bits .entry))))) (now (out .entry))) r (now (out .exit)) ⌝ }
 {
@@ -334,11 +329,12 @@ fn write_plan(
     schema: &[u8],
     table: &[usize],
     choices: &[u8; 64],
-    bits: &[u32; 256],
+    bits: &[u32],
     out: &mut [u8],
 ) -> Answer
     requires { ⌜ Accepted (now schema) ⌝ }
     requires { ⌜ Tabled (now schema) (now table) ⌝ }
+    requires { ⌜ BitsRoom (now schema) (now bits) ⌝ }
     ensures { λ r. ⌜ Did (placed (encode (schemaOf (now (schema .entry))) (planned (schemaOf (now (schema .entry))) (planOf (schemaOf (now (schema .entry))) (now (choices .entry)) (now (bits .entry))))) (now (out .entry))) r (now (out .exit)) ⌝ }
 {
     if 1283 <= out.len() {
@@ -353,6 +349,31 @@ fn write_plan(
     write_short(schema, table, choices, bits, &mut file, out)
 }
 
+// The instance that the tables hold, or 13 where they do not have the root.
+fn answer_plan(
+    schema: &[u8],
+    table: &[usize],
+    nodes: &[u8; 64],
+    choices: &[u8; 64],
+    bits: &[u32],
+    out: &mut [u8],
+) -> Answer
+    requires { ⌜ Accepted (now schema) ⌝ }
+    requires { ⌜ Tabled (now schema) (now table) ⌝ }
+    requires { ⌜ BitsRoom (now schema) (now bits) ⌝ }
+    ensures { λ r. ⌜ Did (given (schemaOf (now (schema .entry))) (now (out .entry)) (plannedIn (schemaOf (now (schema .entry))) (now (nodes .entry)) (now (choices .entry)) (now (bits .entry)))) r (now (out .exit)) ⌝ }
+{
+    if nodes[0] == 1 {
+        return write_plan(schema, table, choices, bits, out);
+    }
+    Answer {
+        number: 13,
+        file: 0,
+        offset: 0,
+        value: 0,
+    }
+}
+
 // The instance for the listed policies in force, or none.
 fn settle_listed(
     schema: &[u8],
@@ -364,17 +385,18 @@ fn settle_listed(
     rows: usize,
     a: u16,
     b: u16,
+    bits: &mut [u32],
     out: &mut [u8],
 ) -> Answer
     requires { ⌜ Accepted (now schema) ⌝ }
     requires { ⌜ SchemaIn (now schema) (now table) count ⌝ }
     requires { ⌜ IndexIn (now schema) (now p) (now index) ⌝ }
     requires { ⌜ InForce (now schema) (now p) (now list) rows a b ⌝ }
+    requires { ⌜ BitsRoom (now schema) (now bits) ⌝ }
     ensures { λ r. ⌜ Did (given (schemaOf (now (schema .entry))) (now (out .entry)) (reconciled (schemaOf (now (schema .entry))) (forced a b (policiesOf (schemaOf (now (schema .entry))) (now (p .entry)))))) r (now (out .exit)) ⌝ }
 {
     let mut nodes = [0u8; 64];
     let mut choices = [255u8; 64];
-    let mut bits = [0u32; 256];
     plan_all(
         schema,
         table,
@@ -387,17 +409,9 @@ fn settle_listed(
         b,
         &mut nodes,
         &mut choices,
-        &mut bits,
+        bits,
     );
-    if nodes[0] == 1 {
-        return write_plan(schema, table, &choices, &bits, out);
-    }
-    Answer {
-        number: 13,
-        file: 0,
-        offset: 0,
-        value: 0,
-    }
+    answer_plan(schema, table, &nodes, &choices, bits, out)
 }
 
 // The instance for the policies in force, or none; the files and the pass are accepted.
@@ -410,16 +424,18 @@ fn settle(
     policies: usize,
     a: u16,
     b: u16,
+    bits: &mut [u32],
     out: &mut [u8],
 ) -> Answer
     requires { ⌜ Accepted (now schema) ⌝ }
     requires { ⌜ SchemaIn (now schema) (now table) count ⌝ }
     requires { ⌜ Indexed (now schema) (now p) (now index) policies ⌝ }
+    requires { ⌜ BitsRoom (now schema) (now bits) ⌝ }
     ensures { λ r. ⌜ Did (given (schemaOf (now (schema .entry))) (now (out .entry)) (reconciled (schemaOf (now (schema .entry))) (forced a b (policiesOf (schemaOf (now (schema .entry))) (now (p .entry)))))) r (now (out .exit)) ⌝ }
 {
     let mut list = [0usize; 16];
     let rows = policies::list_in_force(schema, p, index, policies, a, b, &mut list);
-    settle_listed(schema, table, count, p, index, &list, rows, a, b, out)
+    settle_listed(schema, table, count, p, index, &list, rows, a, b, bits, out)
 }
 
 // Policies and pass, the schema being accepted and its table filled.
@@ -431,11 +447,13 @@ fn reconcile_read(
     a: u16,
     b: u16,
     index: &mut [usize],
+    bits: &mut [u32],
     out: &mut [u8],
 ) -> Answer
     requires { ⌜ Accepted (now schema) ⌝ }
     requires { ⌜ SchemaIn (now schema) (now table) count ⌝ }
     requires { ⌜ IndexRoom (now schema) (now index) ⌝ }
+    requires { ⌜ BitsRoom (now schema) (now bits) ⌝ }
     ensures { λ r. ⌜ Did (reconcilingUnder (schemaOf (now (schema .entry))) (now (p .entry)) a b (now (out .entry))) r (now (out .exit)) ⌝ }
 {
     match policy_reader::read_policies(schema, table, count, p, index) {
@@ -445,14 +463,14 @@ fn reconcile_read(
             offset,
             value: 0,
         },
-        PoliciesRead::Policies { count: policies } => match policies::check_pass(a, b) {
+        PoliciesRead::Policies { count: held } => match policies::check_pass(a, b) {
             Step::Bad { number, offset } => Answer {
                 number,
                 file: 3,
                 offset,
                 value: 0,
             },
-            Step::Next { at: _ } => settle(schema, table, count, p, index, policies, a, b, out),
+            Step::Next { at: _ } => settle(schema, table, count, p, index, held, a, b, bits, out),
         },
     }
 }
@@ -466,16 +484,18 @@ fn reconcile_in(
     b: u16,
     table: &mut [usize],
     index: &mut [usize],
+    bits: &mut [u32],
     out: &mut [u8],
 ) -> Answer
     requires { ⌜ Accepted (now schema) ⌝ }
     requires { ⌜ AtMost 64 (length (schemaOf (now schema))) count ⌝ }
     requires { ⌜ Room (now schema) (now table) ⌝ }
     requires { ⌜ IndexRoom (now schema) (now index) ⌝ }
+    requires { ⌜ BitsRoom (now schema) (now bits) ⌝ }
     ensures { λ r. ⌜ Did (reconcilingUnder (schemaOf (now (schema .entry))) (now (p .entry)) a b (now (out .entry))) r (now (out .exit)) ⌝ }
 {
     nodes::fill_table(schema, table);
-    reconcile_read(schema, table, count, p, a, b, index, out)
+    reconcile_read(schema, table, count, p, a, b, index, bits, out)
 }
 
 // Policies and pass, the schema being accepted; a schema of few nodes has short tables, which are sooner cleared.
@@ -483,20 +503,23 @@ fn reconcile_under(schema: &[u8], p: &[u8], a: u16, b: u16, out: &mut [u8]) -> A
     requires { ⌜ Accepted (now schema) ⌝ }
     ensures { λ r. ⌜ Did (reconcilingUnder (schemaOf (now (schema .entry))) (now (p .entry)) a b (now (out .entry))) r (now (out .exit)) ⌝ }
 {
-    let count = nodes::count_of(schema);
-    if count <= 4 {
+    let n = nodes::count_of(schema);
+    if n <= 4 {
         let mut table = [0usize; 20];
         let mut index = [0usize; 80];
-        return reconcile_in(schema, count, p, a, b, &mut table, &mut index, out);
+        let mut bits = [0u32; 16];
+        return reconcile_in(schema, n, p, a, b, &mut table, &mut index, &mut bits, out);
     }
-    if count <= 16 {
+    if n <= 16 {
         let mut table = [0usize; 80];
         let mut index = [0usize; 272];
-        return reconcile_in(schema, count, p, a, b, &mut table, &mut index, out);
+        let mut bits = [0u32; 64];
+        return reconcile_in(schema, n, p, a, b, &mut table, &mut index, &mut bits, out);
     }
     let mut table = [0usize; 320];
     let mut index = [0usize; 1040];
-    reconcile_in(schema, count, p, a, b, &mut table, &mut index, out)
+    let mut bits = [0u32; 256];
+    reconcile_in(schema, n, p, a, b, &mut table, &mut index, &mut bits, out)
 }
 
 // The instance for schema, policies and pass into the buffer, or a refusal.

@@ -26,7 +26,7 @@ use Rattle.schema.proofs.Accepted.{sound}
 use Rattle.schema.proofs.Access.{node-small}
 use Rattle.instances.specs.Instance.{Entry, elem, reaches}
 use Rattle.instances.specs.File.{IH, IN, reached, valueOf, encodeValue, encodeValues, encodeEntry, encodeEntries, encode}
-use Rattle.instances.specs.Plan.{plannedFrom, planned, valuesFrom, planOf}
+use Rattle.instances.specs.Plan.{plannedFrom, planned, valuesFrom, planOf, BitsRoom}
 use Rattle.writer.specs.Writer.{WroteEntries}
 use Rattle.writer.specs.declared.EntriesPut.{EntriesPut}
 use Rattle.instances.proofs.Planned.{planned-longest}
@@ -118,8 +118,12 @@ module _ (s t : List ℕ) (n : ℕ) (i : NodeIn s t n) where
   pub node-places : Fits w64 (4 * n)
   node-places = let z = node-small s t n i in record { fits = omega arith }
 
-  pub place-small : {c : ℕ} (k : ℕ) → AtMost 4 (length (nodeAt (schemaOf s) n .variables)) c → k < c → 4 * n + k < 256
+  place-small : {c : ℕ} (k : ℕ) → AtMost 4 (length (nodeAt (schemaOf s) n .variables)) c → k < c → 4 * n + k < 256
   place-small k l h = let z = node-small s t n i in omega (arith, l .most)
+
+  -- and the bits have it
+  pub place-room : {c : ℕ} (k : ℕ) (bits : List ℕ) → BitsRoom s bits → AtMost 4 (length (nodeAt (schemaOf s) n .variables)) c → k < c → 4 * n + k < length bits
+  place-room k bits r l h = omega (arith, r .long, i .below, l .most)
 
   pub place-fits : {c : ℕ} (k : ℕ) → AtMost 4 (length (nodeAt (schemaOf s) n .variables)) c → k < c → Fits w64 (4 * n + k)
   place-fits k l h = let z = place-small k l h in record { fits = omega arith }

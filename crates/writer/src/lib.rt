@@ -6,7 +6,7 @@ ghost use Rattle.fields.specs.Writing.{Wrote};
 ghost use Rattle.schema.specs.Schema.{schemaOf, nodeAt};
 ghost use Rattle.schema.specs.Table.{Tabled, Accepted, NodeIn};
 ghost use Rattle.instances.specs.File.{valueOf, encodeValue, encodeValues, encodeEntry, encode};
-ghost use Rattle.instances.specs.Plan.{planned, valuesFrom, planOf};
+ghost use Rattle.instances.specs.Plan.{planned, valuesFrom, planOf, BitsRoom};
 ghost use Rattle.writer.specs.Writer.{WroteEntries};
 use schema::Variable;
 
@@ -36,11 +36,12 @@ fn put_values(
     schema: &[u8],
     table: &[usize],
     n: usize,
-    bits: &[u32; 256],
+    bits: &[u32],
     out: &mut [u8],
     from: usize,
 ) -> usize
     requires { ⌜ NodeIn (now schema) (now table) n ⌝ }
+    requires { ⌜ BitsRoom (now schema) (now bits) ⌝ }
     requires { ⌜ from + 16 ≤ length (now out) ⌝ }
     ensures { λ r. ⌜ Wrote (now (out .entry)) from (encodeValues (nodeAt (schemaOf (now (schema .entry))) n .variables) (valuesFrom (nodeAt (schemaOf (now (schema .entry))) n .variables) (now (bits .entry)) (4 * n))) (now (out .exit)) r ⌝ }
 {
@@ -62,11 +63,12 @@ fn put_entry(
     table: &[usize],
     n: usize,
     choices: &[u8; 64],
-    bits: &[u32; 256],
+    bits: &[u32],
     out: &mut [u8],
     from: usize,
 ) -> usize
     requires { ⌜ NodeIn (now schema) (now table) n ⌝ }
+    requires { ⌜ BitsRoom (now schema) (now bits) ⌝ }
     requires { ⌜ from + 20 ≤ length (now out) ⌝ }
     ensures { λ r. ⌜ Wrote (now (out .entry)) from (encodeEntry (schemaOf (now (schema .entry))) (planOf (schemaOf (now (schema .entry))) (now (choices .entry)) (now (bits .entry)) n)) (now (out .exit)) r ⌝ }
 {
@@ -87,11 +89,12 @@ fn put_entries(
     schema: &[u8],
     table: &[usize],
     choices: &[u8; 64],
-    bits: &[u32; 256],
+    bits: &[u32],
     out: &mut [u8],
 ) -> EntriesPut
     requires { ⌜ Accepted (now schema) ⌝ }
     requires { ⌜ Tabled (now schema) (now table) ⌝ }
+    requires { ⌜ BitsRoom (now schema) (now bits) ⌝ }
     requires { ⌜ 1283 ≤ length (now out) ⌝ }
     ensures { λ r. ⌜ WroteEntries (schemaOf (now (schema .entry))) (planned (schemaOf (now (schema .entry))) (planOf (schemaOf (now (schema .entry))) (now (choices .entry)) (now (bits .entry)))) (now (out .entry)) (now (out .exit)) r ⌝ }
 {
@@ -118,11 +121,12 @@ pub fn write_planned(
     schema: &[u8],
     table: &[usize],
     choices: &[u8; 64],
-    bits: &[u32; 256],
+    bits: &[u32],
     out: &mut [u8],
 ) -> usize
     requires { ⌜ Accepted (now schema) ⌝ }
     requires { ⌜ Tabled (now schema) (now table) ⌝ }
+    requires { ⌜ BitsRoom (now schema) (now bits) ⌝ }
     requires { ⌜ 1283 ≤ length (now out) ⌝ }
     ensures { λ r. ⌜ Wrote (now (out .entry)) 0 (encode (schemaOf (now (schema .entry))) (planned (schemaOf (now (schema .entry))) (planOf (schemaOf (now (schema .entry))) (now (choices .entry)) (now (bits .entry))))) (now (out .exit)) r ⌝ }
 {

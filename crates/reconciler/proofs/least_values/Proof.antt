@@ -4,7 +4,7 @@ use Prim.Native.Nat.{_-_}
 use native.Mathlib.Omega.{arith}
 use Rattle.schema.specs.Schema.{schemaOf}
 use Rattle.schema.proofs.Access.{node-small}
-use Rattle.reconciler.proofs.Values.{Finding, finding-none, finding-stop, finding-more, finding-done}
+use Rattle.reconciler.proofs.Values.{Finding, finding-none, finding-stop, finding-place, finding-more, finding-done}
 use borrow.Author.Needs.{needs}
 use Rattle.reconciler.proofs.least_values.Statement.{statement}
 use Rattle.reconciler.proofs.least_values.Tie as tie
@@ -30,6 +30,9 @@ left-in-requires c κs = search needs
 enum-told : tie.Need-enum-told Inv-loop μ-loop
 enum-told c = search needs
 
+same-length : tie.Need-same-length Inv-loop μ-loop
+same-length c = search needs
+
 returns : tie.Need-returns Inv-loop μ-loop
 returns c = search finding-stop
 
@@ -45,8 +48,8 @@ add-bits c = omega (arith, node-small)
 mul-bits-2 : tie.Need-mul-bits-2 Inv-loop μ-loop
 mul-bits-2 c = omega (arith, node-small)
 
-element-write-bits : tie.Need-element-write-bits Inv-loop μ-loop
-element-write-bits c = omega (arith, node-small)
+slice-write-bits : tie.Need-slice-write-bits Inv-loop μ-loop
+slice-write-bits c = search finding-place
 
 add-k : tie.Need-add-k Inv-loop μ-loop
 add-k c = search needs
@@ -56,6 +59,9 @@ loop-less c = search needs
 
 loop-again : tie.Need-loop-again Inv-loop μ-loop
 loop-again c = search finding-more
+
+same-length-2 : tie.Need-same-length-2 Inv-loop μ-loop
+same-length-2 c = search needs
 
 returns-2 : tie.Need-returns-2 Inv-loop μ-loop
 returns-2 c = search finding-done
@@ -71,13 +77,15 @@ least-values-spec =
     is-number-requires
     left-in-requires
     enum-told
+    same-length
     returns
     enum-known-u
     mul-bits
     add-bits
     mul-bits-2
-    element-write-bits
+    slice-write-bits
     add-k
     loop-less
     loop-again
+    same-length-2
     returns-2)

@@ -1,20 +1,22 @@
 -- The tables tell of each node from here on.
 -- Rests on the laws of one turn, in Passes.
+use mathlib.Core.Path.{_≡_}
 use Prim.Native.Nat.{_≤_}
+use lib.ListN.{length}
 use Rattle.reconciler.specs.Plan.{Planned}
-use Rattle.reconciler.proofs.Passes.{node-in, pass-place, pass-unmet, pass-met, pass-take, pass-small, pass-done}
+use Rattle.reconciler.proofs.Passes.{node-in, pass-place, pass-unmet, pass-met, pass-take, pass-small, pass-long, pass-done}
 use borrow.Author.Needs.{needs}
 use Rattle.reconciler.proofs.plan_all.Statement.{statement}
 use Rattle.reconciler.proofs.plan_all.Tie as tie
 
 abbrev Inv-loop : tie.InvT-loop
-Inv-loop schema table count p index list rows a b nodes₀ choices₀ bits₀ n₀ nodes choices bits n = Planned schema p a b n nodes choices bits × (n ≤ count)
+Inv-loop schema table count p index list rows a b nodes₀ choices₀ bits₀ n₀ nodes choices bits n = Planned schema p a b n nodes choices bits × (n ≤ count) × (length bits ≡ length bits₀)
 
 abbrev μ-loop : tie.MeasureT-loop
 μ-loop schema table count p index list rows a b nodes₀ choices₀ bits₀ n₀ nodes choices bits n = n
 
 loop-holds : tie.Need-loop-holds Inv-loop μ-loop
-loop-holds c = (search needs, search needs)
+loop-holds c = (search needs, search needs, search needs)
 
 sub-n : tie.Need-sub-n Inv-loop μ-loop
 sub-n c = search needs
@@ -29,7 +31,12 @@ loop-less : tie.Need-loop-less Inv-loop μ-loop
 loop-less c = search needs
 
 loop-again : tie.Need-loop-again Inv-loop μ-loop
-loop-again c = (pass-unmet _ _ _ _ _ _ _ _ _ _ (c .before .before .before .before .before .before .before .before .before .before .shared-slice-known .given) (c .before .before .before .before .before .before .before .before .before .before .before .pre .0) (c .before .before .before .before .before .before .loop .inv .0) (c .before .before .before .before .before .loop-test .taken) (c .before .before .before .before .before .before .loop .inv .1) (c .before .before .plan-node .ensures) (c .enum-told .given .1), search needs)
+loop-again c =
+    let done = c .before .before .before .before in
+    let turn = done .before .before .before in
+    let loop = turn .before in
+    let known = loop .before .before .before .before .before in
+    (pass-unmet _ _ _ _ _ _ _ _ _ _ (known .shared-slice-known .given) (known .before .pre .0) (loop .loop .inv .0) (turn .loop-test .taken) (loop .loop .inv .1) (done .plan-node .ensures) (c .enum-told .given .1), search needs, search pass-long)
 
 enum-told-2 : tie.Need-enum-told-2 Inv-loop μ-loop
 enum-told-2 c = search needs
@@ -41,13 +48,23 @@ loop-less-2 : tie.Need-loop-less-2 Inv-loop μ-loop
 loop-less-2 c = search needs
 
 loop-again-2 : tie.Need-loop-again-2 Inv-loop μ-loop
-loop-again-2 c = (pass-met _ _ _ _ _ _ _ _ _ _ (c .before .before .before .before .before .before .before .before .before .before .shared-slice-known .given) (c .before .before .before .before .before .before .before .before .before .before .before .pre .0) (c .before .before .before .before .before .before .loop .inv .0) (c .before .before .before .before .before .loop-test .taken) (c .before .before .before .before .before .before .loop .inv .1) (c .before .before .plan-node .ensures) (c .enum-told2 .given .1), search needs)
+loop-again-2 c =
+    let done = c .before .before .before .before in
+    let turn = done .before .before .before in
+    let loop = turn .before in
+    let known = loop .before .before .before .before .before in
+    (pass-met _ _ _ _ _ _ _ _ _ _ (known .shared-slice-known .given) (known .before .pre .0) (loop .loop .inv .0) (turn .loop-test .taken) (loop .loop .inv .1) (done .plan-node .ensures) (c .enum-told2 .given .1), search needs, search pass-long)
 
 enum-known-successor : tie.Need-enum-known-successor Inv-loop μ-loop
 enum-known-successor c = search needs
 
 cast-choices : tie.Need-cast-choices Inv-loop μ-loop
-cast-choices c = record { fits = pass-small _ _ _ _ _ _ _ _ _ _ (c .before .before .before .before .before .before .before .before .before .before .before .shared-slice-known .given) (c .before .before .before .before .before .before .before .before .before .before .before .before .pre .0) (c .before .before .before .before .before .before .before .loop .inv .0) (c .before .before .before .before .before .before .loop-test .taken) (c .before .before .before .before .before .before .before .loop .inv .1) (c .before .before .before .plan-node .ensures) (c .before .successor .given .1) }
+cast-choices c =
+    let done = c .before .before .before .before .before in
+    let turn = done .before .before .before in
+    let loop = turn .before in
+    let known = loop .before .before .before .before .before in
+    record { fits = pass-small _ _ _ _ _ _ _ _ _ _ (known .shared-slice-known .given) (known .before .pre .0) (loop .loop .inv .0) (turn .loop-test .taken) (loop .loop .inv .1) (done .plan-node .ensures) (c .before .successor .given .1) }
 
 element-write-choices : tie.Need-element-write-choices Inv-loop μ-loop
 element-write-choices c = search pass-place
@@ -59,7 +76,10 @@ loop-less-3 : tie.Need-loop-less-3 Inv-loop μ-loop
 loop-less-3 c = search needs
 
 loop-again-3 : tie.Need-loop-again-3 Inv-loop μ-loop
-loop-again-3 c = (search pass-take, search needs)
+loop-again-3 c = (search pass-take, search needs, search pass-long)
+
+same-length : tie.Need-same-length Inv-loop μ-loop
+same-length c = search needs
 
 returns : tie.Need-returns Inv-loop μ-loop
 returns c = search pass-done
@@ -86,4 +106,5 @@ plan-all-spec =
     element-write-nodes-2
     loop-less-3
     loop-again-3
+    same-length
     returns)

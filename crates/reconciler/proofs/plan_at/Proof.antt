@@ -23,8 +23,14 @@ choose-requires c κs = (search needs, (search needs, search node-columns))
 successor-of-requires : tie.Need-successor-of-requires
 successor-of-requires c κs = (search needs, search chosen-inside)
 
+same-length : tie.Need-same-length
+same-length c = search needs
+
 returns : tie.Need-returns
 returns c = search node-take
+
+same-length-2 : tie.Need-same-length-2
+same-length-2 c = search needs
 
 returns-2 : tie.Need-returns-2
 returns-2 c = search node-none
@@ -32,11 +38,20 @@ returns-2 c = search node-none
 all-in-requires : tie.Need-all-in-requires
 all-in-requires c κs = search needs
 
+same-length-3 : tie.Need-same-length-3
+same-length-3 c = search needs
+
 returns-3 : tie.Need-returns-3
 returns-3 c = search node-met
 
+same-length-4 : tie.Need-same-length-4
+same-length-4 c = search needs
+
 returns-4 : tie.Need-returns-4
 returns-4 c = search node-some-unmet
+
+same-length-5 : tie.Need-same-length-5
+same-length-5 c = search needs
 
 returns-5 : tie.Need-returns-5
 returns-5 c = search node-empty
@@ -51,9 +66,14 @@ plan-at-spec =
     successor-count-requires
     choose-requires
     successor-of-requires
+    same-length
     returns
+    same-length-2
     returns-2
     all-in-requires
+    same-length-3
     returns-3
+    same-length-4
     returns-4
+    same-length-5
     returns-5)

@@ -10,10 +10,13 @@ find-requires : tie.Need-find-requires
 find-requires c κs = (search needs, (search needs, (search node-below, search needs)))
 
 plan-at-requires : tie.Need-plan-at-requires
-plan-at-requires c κs = (search needs, (found-is _ _ _ _ _ _ _ _ _ _ (c .before .before .before .before .before .before .before .before .pre .0) (c .before .before .before .before .before .before .before .before .pre .1 .0) (c .before .before .before .before .before .before .before .before .pre .1 .1 .0) (search needs) (c .before .before .find .ensures), search needs))
+plan-at-requires c κs = (search needs, (found-is _ _ _ _ _ _ _ _ _ _ (c .before .before .before .before .before .before .before .before .before .pre .0) (c .before .before .before .before .before .before .before .before .before .pre .1 .0) (c .before .before .before .before .before .before .before .before .before .pre .1 .1 .0) (search needs) (c .before .before .find .ensures), search needs))
+
+same-length : tie.Need-same-length
+same-length c = search needs
 
 returns : tie.Need-returns
 returns c = search needs
 
 pub plan-node-spec : {M : Type 1} → statement M
-plan-node-spec = tie.close (tie.spec find-requires plan-at-requires returns)
+plan-node-spec = tie.close (tie.spec find-requires plan-at-requires same-length returns)

@@ -11,8 +11,8 @@ read-policies-requires c κs = search needs
 enum-known-number : tie.Need-enum-known-number
 enum-known-number c = search needs
 
-enum-known-policies : tie.Need-enum-known-policies
-enum-known-policies c = search needs
+enum-known-held : tie.Need-enum-known-held
+enum-known-held c = search needs
 
 check-pass-requires : tie.Need-check-pass-requires
 check-pass-requires c κs = search needs
@@ -24,7 +24,7 @@ enum-told : tie.Need-enum-told
 enum-told c = search needs
 
 settle-requires : tie.Need-settle-requires
-settle-requires c κs = (search needs, (search needs, search policies-indexed))
+settle-requires c κs = (search needs, (search needs, (search policies-indexed, search needs)))
 
 same-length : tie.Need-same-length
 same-length c = search needs
@@ -44,6 +44,9 @@ same-length-3 c = search needs
 same-length-4 : tie.Need-same-length-4
 same-length-4 c = search needs
 
+same-length-5 : tie.Need-same-length-5
+same-length-5 c = search needs
+
 returns-3 : tie.Need-returns-3
 returns-3 c = search (policies-refused, pass-refused, pass-accepted)
 
@@ -53,7 +56,7 @@ reconcile-read-spec =
     (tie.spec
     read-policies-requires
     enum-known-number
-    enum-known-policies
+    enum-known-held
     check-pass-requires
     enum-known-number-2
     enum-told
@@ -64,4 +67,5 @@ reconcile-read-spec =
     returns-2
     same-length-3
     same-length-4
+    same-length-5
     returns-3)

@@ -9,14 +9,17 @@ list-in-force-requires : tie.Need-list-in-force-requires
 list-in-force-requires c κs = search needs
 
 settle-listed-requires : tie.Need-settle-listed-requires
-settle-listed-requires c κs = (search needs, (search needs, (search needs, search listed)))
+settle-listed-requires c κs = (search needs, (search needs, (search needs, (search listed, search needs))))
 
 same-length : tie.Need-same-length
 same-length c = search needs
+
+same-length-2 : tie.Need-same-length-2
+same-length-2 c = search needs
 
 returns : tie.Need-returns
 returns c = search needs
 
 pub settle-spec : {M : Type 1} → statement M
 settle-spec =
-    tie.close (tie.spec list-in-force-requires settle-listed-requires same-length returns)
+    tie.close (tie.spec list-in-force-requires settle-listed-requires same-length same-length-2 returns)

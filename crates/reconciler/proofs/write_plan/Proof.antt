@@ -18,7 +18,7 @@ slice-aggregate-write-short : tie.Need-slice-aggregate-write-short
 slice-aggregate-write-short c = search needs
 
 write-short-requires : tie.Need-write-short-requires
-write-short-requires c κs = search needs
+write-short-requires c κs = (search needs, (search needs, (search needs, search needs)))
 
 same-length-2 : tie.Need-same-length-2
 same-length-2 c = search needs

@@ -51,10 +51,10 @@ loop-again c =
     let test = put .before .before in
     let turn = test .before .before in
     let loop = turn .before in
-    let known = loop .before .before .before .before in
+    let known = loop .before .before .before .before .before in
     let start = known .before in
     walk-put _ _ _ _ _ _ _ _ _ (loop .loop .inv) (loop .before .count-of .ensures) (turn .loop-test .taken) (test .before .has .ensures) (test .if1 .taken) (start .pre .0)
-    (known .shared-slice-known .given) (start .pre .1 .1) (put .put-entry .ensures) (length .out .given) (c .before .widened .ensures) (c .reach .ensures)
+    (known .shared-slice-known .given) (start .pre .1 .1 .1) (put .put-entry .ensures) (length .out .given) (c .before .widened .ensures) (c .reach .ensures)
 
 add-n-2 : tie.Need-add-n-2 Inv-loop μ-loop
 add-n-2 c = search needs

@@ -31,7 +31,7 @@ add-put-values : tie.Need-add-put-values
 add-put-values c = search needs
 
 put-values-requires : tie.Need-put-values-requires
-put-values-requires c κs = search needs
+put-values-requires c κs = (search needs, (search needs, search needs))
 
 same-length : tie.Need-same-length
 same-length c = search needs

@@ -3,7 +3,7 @@
 use borrow.Author.Needs.{needs}
 use Prim.Native.Nat.{_-_}
 use Rattle.schema.specs.Schema.{schemaOf, nodeAt}
-use Rattle.writer.proofs.Writer.{PuttingValues, values-none, values-room, values-put, values-wrote, node-places, place-small, place-fits, place-bytes}
+use Rattle.writer.proofs.Writer.{PuttingValues, values-none, values-room, values-put, values-wrote, node-places, place-room, place-fits, place-bytes}
 use Rattle.writer.proofs.put_values.Statement.{statement}
 use Rattle.writer.proofs.put_values.Tie as tie
 
@@ -31,8 +31,8 @@ add-u c = search place-fits
 mul-u-2 : tie.Need-mul-u-2 Inv-loop μ-loop
 mul-u-2 c = search place-bytes
 
-element-copy-out-u : tie.Need-element-copy-out-u Inv-loop μ-loop
-element-copy-out-u c = search place-small
+shared-slice-read-u : tie.Need-shared-slice-read-u Inv-loop μ-loop
+shared-slice-read-u c = search place-room
 
 put-value-requires : tie.Need-put-value-requires Inv-loop μ-loop
 put-value-requires c κs = search values-room
@@ -64,7 +64,7 @@ put-values-spec =
     mul-u
     add-u
     mul-u-2
-    element-copy-out-u
+    shared-slice-read-u
     put-value-requires
     add-k
     loop-less
