@@ -1,6 +1,6 @@
 // The reader of policies files.
 ghost use mathlib.Core.Path.{_≡_};
-ghost use Prim.Native.Nat.{_+_, _<_, _≤_};
+ghost use Prim.Native.Nat.{_+_, _*_, _<_, _≤_};
 ghost use lib.ListN.{length, getD, set, drop, replicate};
 ghost use Rattle.fields.specs.Answers.{stepOf};
 ghost use Rattle.schema.specs.Schema.{schemaOf, nodeAt, variableAt};
@@ -233,8 +233,8 @@ fn put_pair(layout: &mut [usize], at: usize, x: usize, y: usize)
     layout[at + 1] = y;
 }
 
-// The layout of node n, after those below it: at n eight times the bytes of its ranks and conditions, and how many
-// variables there are up to the last listed one; from 64 + 8 n on the offset and the greatest number of each condition.
+// The layout of node n, after those below it: eight times the bytes of its ranks and conditions, and how many variables
+// there are up to the last listed one; then the offset and the greatest number of each condition.
 fn lay_out(schema: &[u8], table: &[usize], n: usize, layout: &mut [usize])
     requires { ⌜ NodeIn (now schema) (now table) n ⌝ }
     requires { ⌜ Laid (schemaOf (now schema)) n (now layout) ⌝ }
@@ -246,7 +246,7 @@ fn lay_out(schema: &[u8], table: &[usize], n: usize, layout: &mut [usize])
     let mut k: usize = 0;
     while k < v {
         let most = most_of(schema, table, n, k);
-        put_pair(layout, 64 + 8 * n + 2 * k, w, most);
+        put_pair(layout, 1 + 9 * n + 2 * k, w, most);
         if nodes::is_number(schema, table, n, k) {
             w += 8;
             k += 1;
@@ -256,7 +256,7 @@ fn lay_out(schema: &[u8], table: &[usize], n: usize, layout: &mut [usize])
             f = k;
         }
     }
-    layout[n] = 8 * w + f;
+    layout[9 * n] = 8 * w + f;
 }
 
 // The layout of all nodes.
@@ -280,8 +280,8 @@ fn none_over(layout: &[usize], n: usize, looks: usize, b: &[u8], from: usize) ->
     let mut k = looks;
     while 0 < k {
         k -= 1;
-        let at = layout[64 + 8 * n + 2 * k];
-        let most = layout[64 + 8 * n + 2 * k + 1];
+        let at = layout[1 + 9 * n + 2 * k];
+        let most = layout[1 + 9 * n + 2 * k + 1];
         if most < (fields::u32_at(b, from + at) as usize) {
             return false;
         }
@@ -298,10 +298,10 @@ struct Shape {
 // As a rule a PN names the lowest node that may follow the one before. What the layout holds of that is known ahead, so
 // that the place of the next PN need not wait for this one's node.
 fn shape_of(layout: &[usize], n: usize, low: usize, ahead: usize) -> Shape
-    requires { ⌜ ahead ≡ getD (now layout) low 0 ⌝ }
+    requires { ⌜ ahead ≡ getD (now layout) (9 * low) 0 ⌝ }
     requires { ⌜ n < 64 ⌝ }
-    requires { ⌜ n < length (now layout) ⌝ }
-    ensures { λ r. ⌜ (r .shape ≡ getD (now (layout .entry)) n 0) × (r .low ≡ n + 1) ⌝ }
+    requires { ⌜ 9 * n < length (now layout) ⌝ }
+    ensures { λ r. ⌜ (r .shape ≡ getD (now (layout .entry)) (9 * n) 0) × (r .low ≡ n + 1) ⌝ }
 {
     if n == low {
         return Shape {
@@ -310,7 +310,7 @@ fn shape_of(layout: &[usize], n: usize, low: usize, ahead: usize) -> Shape
         };
     }
     Shape {
-        shape: layout[n],
+        shape: layout[9 * n],
         low: n + 1,
     }
 }
@@ -327,7 +327,7 @@ fn read_body(
 ) -> Step
     requires { ⌜ NodeIn (now schema) (now table) n ⌝ }
     requires { ⌜ Laid (schemaOf (now schema)) (length (schemaOf (now schema))) (now layout) ⌝ }
-    requires { ⌜ shape ≡ getD (now layout) n 0 ⌝ }
+    requires { ⌜ shape ≡ getD (now layout) (9 * n) 0 ⌝ }
     requires { ⌜ from ≤ length (now b) ⌝ }
     ensures { λ r. ⌜ r ≡ stepOf (ruleOf (now (b .entry)) (nodeAt (schemaOf (now (schema .entry))) n) n from) ⌝ }
 {
@@ -355,7 +355,7 @@ fn read_rule(
 ) -> RuleRead
     requires { ⌜ SchemaIn (now schema) (now table) count ⌝ }
     requires { ⌜ Laid (schemaOf (now schema)) count (now layout) ⌝ }
-    requires { ⌜ ahead ≡ getD (now layout) low 0 ⌝ }
+    requires { ⌜ ahead ≡ getD (now layout) (9 * low) 0 ⌝ }
     ensures { λ r. ⌜ r ≡ ruleRead from (rule (schemaOf (now (schema .entry))) (now (b .entry)) low from) ⌝ }
 {
     match reading::read_mark(b, from, b"PN") {
@@ -426,7 +426,7 @@ fn read_rules(
             } => {
                 index[16 + 16 * node + j] = body;
                 low = above;
-                ahead = layout[above];
+                ahead = layout[9 * above];
                 at = next;
                 left -= 1;
             }
@@ -554,10 +554,10 @@ pub fn read_policies(
     requires { ⌜ IndexRoom (now schema) (now index) ⌝ }
     ensures { λ r. ⌜ Told (now (schema .entry)) (now (p .entry)) r (now (index .exit)) ⌝ }
 {
-    if count <= 8 {
-        let mut layout = [0usize; 128];
+    if count <= 16 {
+        let mut layout = [0usize; 145];
         return read_by_layout(schema, table, &mut layout, count, p, index);
     }
-    let mut layout = [0usize; 576];
+    let mut layout = [0usize; 577];
     read_by_layout(schema, table, &mut layout, count, p, index)
 }

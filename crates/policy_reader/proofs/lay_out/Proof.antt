@@ -90,6 +90,9 @@ add-layout c = omega (arith, node-small)
 mul-layout-2 : tie.Need-mul-layout-2 Inv-loop μ-loop
 mul-layout-2 c = omega (arith, node-small)
 
+mul-layout-3 : tie.Need-mul-layout-3 Inv-loop μ-loop
+mul-layout-3 c = omega (arith, node-small)
+
 slice-write-layout : tie.Need-slice-write-layout Inv-loop μ-loop
 slice-write-layout c = search lay-own
 
@@ -126,6 +129,7 @@ lay-out-spec =
     mul-layout
     add-layout
     mul-layout-2
+    mul-layout-3
     slice-write-layout
     same-length
     returns)

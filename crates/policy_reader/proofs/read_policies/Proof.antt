@@ -1,6 +1,6 @@
 -- A layout of zeros has room for the nodes.
 -- Rests on the number of nodes.
-use Rattle.policy_reader.proofs.Laying.{laid-8, laid-64}
+use Rattle.policy_reader.proofs.Laying.{laid-16, laid-64}
 use borrow.Author.Needs.{needs}
 use Rattle.policy_reader.proofs.read_policies.Statement.{statement}
 use Rattle.policy_reader.proofs.read_policies.Tie as tie
@@ -9,7 +9,7 @@ slice-aggregate-read-by-layout : tie.Need-slice-aggregate-read-by-layout
 slice-aggregate-read-by-layout c = search needs
 
 read-by-layout-requires : tie.Need-read-by-layout-requires
-read-by-layout-requires c κs = (search needs, (search laid-8, search needs))
+read-by-layout-requires c κs = (search needs, (search laid-16, search needs))
 
 same-length : tie.Need-same-length
 same-length c = search needs

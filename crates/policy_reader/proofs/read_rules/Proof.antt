@@ -5,7 +5,7 @@ use Rattle.schema.specs.Schema.{schemaOf}
 use Rattle.policies.specs.Policies.{rules}
 use Rattle.policies.specs.Index.{fillRules}
 use Rattle.policy_reader.specs.Runs.{runOf}
-use Rattle.policy_reader.proofs.Rules.{Filling, rules-start, rules-bad, rules-more, rules-done, rule-place, rule-row-fits, rule-rows-fits, rule-place-fits, rule-scaled, above-scaled, above-place, first-place}
+use Rattle.policy_reader.proofs.Rules.{Filling, rules-start, rules-bad, rules-more, rules-done, rule-place, rule-row-fits, rule-rows-fits, rule-place-fits, rule-scaled, above-fits, above-scaled, above-place, first-place}
 use Rattle.policy_reader.proofs.read_rules.Statement.{statement}
 use Rattle.policy_reader.proofs.read_rules.Tie as tie
 
@@ -53,7 +53,10 @@ slice-write-index : tie.Need-slice-write-index Inv-loop μ-loop
 slice-write-index c = rule-place _ _ _ _ (c .before .before .before .read-rule .ensures) (c .before .node .given .1) _ (c .before .before .before .before .before .loop .inv) (c .before .before .before .before .before .before .before .before .before .before .before .before .pre .1 .1 .0)
 
 mul-ahead : tie.Need-mul-ahead Inv-loop μ-loop
-mul-ahead c = search above-scaled
+mul-ahead c = search above-fits
+
+mul-ahead-2 : tie.Need-mul-ahead-2 Inv-loop μ-loop
+mul-ahead-2 c = search above-scaled
 
 shared-slice-read-ahead-2 : tie.Need-shared-slice-read-ahead-2 Inv-loop μ-loop
 shared-slice-read-ahead-2 c = search above-place
@@ -92,6 +95,7 @@ read-rules-spec =
     mul-index-2
     slice-write-index
     mul-ahead
+    mul-ahead-2
     shared-slice-read-ahead-2
     sub-left
     loop-less

@@ -14,14 +14,17 @@ returns c = shape-ahead (c .before .args .layout .now) _ _ _ (c .before .pre .0)
 mul-t7 : tie.Need-mul-t7
 mul-t7 c = search needs
 
-shared-slice-read-t9 : tie.Need-shared-slice-read-t9
-shared-slice-read-t9 c = search needs
+mul-t8 : tie.Need-mul-t8
+mul-t8 c = search needs
 
-add-t10 : tie.Need-add-t10
-add-t10 c = search needs
+shared-slice-read-t10 : tie.Need-shared-slice-read-t10
+shared-slice-read-t10 c = search needs
+
+add-t11 : tie.Need-add-t11
+add-t11 c = search needs
 
 returns-2 : tie.Need-returns-2
 returns-2 c = search needs
 
 pub shape-of-spec : {M : Type 1} → statement M
-shape-of-spec = tie.close (tie.spec add-t6 returns mul-t7 shared-slice-read-t9 add-t10 returns-2)
+shape-of-spec = tie.close (tie.spec add-t6 returns mul-t7 mul-t8 shared-slice-read-t10 add-t11 returns-2)
