@@ -122,16 +122,16 @@ shape-numbers (Listed size ∷ vs) w k f a b (suc i) l h = shape-numbers vs (w +
 -- ---- what the code's tests show
 
 over-at : (t s : List ℕ) (n p k : ℕ) → noneOver t s n p k ≡ true → (i : ℕ) → i < k
-    → be 4 s (p + getD t (1 + 9 * n + 2 * i) 0) ≤ getD t (1 + 9 * n + 2 * i + 1) 0
+    → be 4 s (p + getD t (2 + 16 * n + 2 * i) 0) ≤ getD t (2 + 16 * n + 2 * i + 1) 0
 unfolding noneOver
 over-at t s n p zero e i l = absurd (omega arith)
 over-at t s n p (suc k) e i l =
-    let both = and-true (leb (be 4 s (p + getD t (1 + 9 * n + 2 * k) 0)) (getD t (1 + 9 * n + 2 * k + 1) 0)) (noneOver t s n p k) e in
-    go (leb-true (be 4 s (p + getD t (1 + 9 * n + 2 * k) 0)) (getD t (1 + 9 * n + 2 * k + 1) 0) (both .0)) (over-at t s n p k (both .1) i) (decLt i k)
+    let both = and-true (leb (be 4 s (p + getD t (2 + 16 * n + 2 * k) 0)) (getD t (2 + 16 * n + 2 * k + 1) 0)) (noneOver t s n p k) e in
+    go (leb-true (be 4 s (p + getD t (2 + 16 * n + 2 * k) 0)) (getD t (2 + 16 * n + 2 * k + 1) 0) (both .0)) (over-at t s n p k (both .1) i) (decLt i k)
   where
-    go : be 4 s (p + getD t (1 + 9 * n + 2 * k) 0) ≤ getD t (1 + 9 * n + 2 * k + 1) 0
-        → (i < k → be 4 s (p + getD t (1 + 9 * n + 2 * i) 0) ≤ getD t (1 + 9 * n + 2 * i + 1) 0) → Dec (i < k)
-        → be 4 s (p + getD t (1 + 9 * n + 2 * i) 0) ≤ getD t (1 + 9 * n + 2 * i + 1) 0
+    go : be 4 s (p + getD t (2 + 16 * n + 2 * k) 0) ≤ getD t (2 + 16 * n + 2 * k + 1) 0
+        → (i < k → be 4 s (p + getD t (2 + 16 * n + 2 * i) 0) ≤ getD t (2 + 16 * n + 2 * i + 1) 0) → Dec (i < k)
+        → be 4 s (p + getD t (2 + 16 * n + 2 * i) 0) ≤ getD t (2 + 16 * n + 2 * i + 1) 0
     go a f (yes h) = f h
     go a f (no h) = let z : k ≡ i = omega arith in rw z at a
 
@@ -171,17 +171,17 @@ module _ (schema : List ℕ) {table : List ℕ} (t : List ℕ) (n : ℕ) (w : La
   few : 0 + length (node .variables) ≤ 4
   few = omega (arith, variables-few schema n (b .below))
 
-  half-is : getD t (9 * n) 0 / 8 ≡ bodyWidth node
+  half-is : getD t (16 * n) 0 / 8 ≡ bodyWidth node
   unfolding bodyWidth offsetOf shapeOf
   half-is = ap (λ (i : ℕ). i / 8) (w .each n (b .below) .shape) ∙ shape-half (node .variables) (rankCount node) 0 0 (omega arith) few
 
-  looks-few : getD t (9 * n) 0 % 8 ≤ length (node .variables)
+  looks-few : getD t (16 * n) 0 % 8 ≤ length (node .variables)
   unfolding shapeOf
   looks-few =
       let r = shape-looks (node .variables) (rankCount node) 0 0 (omega arith) few .most in
       omega (arith, ap (λ (i : ℕ). i % 8) (w .each n (b .below) .shape))
 
-  module _ (s : List ℕ) (p : ℕ) {shape : ℕ} (q : shape ≡ getD t (9 * n) 0) (h : p ≤ length s) (l : shape / 8 ≤ length s - p) where
+  module _ (s : List ℕ) (p : ℕ) {shape : ℕ} (q : shape ≡ getD t (16 * n) 0) (h : p ≤ length s) (l : shape / 8 ≤ length s - p) where
     half : shape / 8 ≡ bodyWidth node
     half = ap (λ (i : ℕ). i / 8) q ∙ half-is
 
@@ -227,26 +227,29 @@ over-start t s n p looks = record { upto = omega arith; left = refl }
 
 module _ (t s : List ℕ) (n p looks k : ℕ) (i : Looked t s n p looks k) (l : 0 < k) where
   module _ (w : Looking t s n looks p) where
-    pub over-there : p + getD t (1 + 9 * n + 2 * (k - 1)) 0 + 4 ≤ length s
+    pub over-there : p + getD t (2 + 16 * n + 2 * (k - 1)) 0 + 4 ≤ length s
     over-there = w .there (k - 1) (omega (arith, i .upto))
 
-    pub over-fits : length s < 2 ^ 64 → Fits w64 (p + getD t (1 + 9 * n + 2 * (k - 1)) 0)
+    pub over-cast : length s < 2 ^ 64 → Fits w64 (getD t (2 + 16 * n + 2 * (k - 1)) 0)
+    over-cast m = record { fits = omega (arith, over-there) }
+
+    pub over-fits : length s < 2 ^ 64 → Fits w64 (p + getD t (2 + 16 * n + 2 * (k - 1)) 0)
     over-fits m = record { fits = omega (arith, over-there) }
 
-  last : (leb (be 4 s (p + getD t (1 + 9 * n + 2 * (k - 1)) 0)) (getD t (1 + 9 * n + 2 * (k - 1) + 1) 0) && noneOver t s n p (k - 1)) ≡ noneOver t s n p looks
+  last : (leb (be 4 s (p + getD t (2 + 16 * n + 2 * (k - 1)) 0)) (getD t (2 + 16 * n + 2 * (k - 1) + 1) 0) && noneOver t s n p (k - 1)) ≡ noneOver t s n p looks
   unfolding noneOver
   last = ap (noneOver t s n p) (let z : suc (k - 1) ≡ k = omega arith in z) ∙ i .left
 
-  pub over-bad : {u : ℕ} → u ≡ be 4 s (p + getD t (1 + 9 * n + 2 * (k - 1)) 0) → getD t (1 + 9 * n + 2 * (k - 1) + 1) 0 < u → false ≡ noneOver t s n p looks
-  over-bad e h = sym (and-no (noneOver t s n p (k - 1)) (lt-leb (be 4 s (p + getD t (1 + 9 * n + 2 * (k - 1)) 0)) (getD t (1 + 9 * n + 2 * (k - 1) + 1) 0) (omega arith))) ∙ last
+  pub over-bad : {u : ℕ} → u ≡ be 4 s (p + getD t (2 + 16 * n + 2 * (k - 1)) 0) → getD t (2 + 16 * n + 2 * (k - 1) + 1) 0 < u → false ≡ noneOver t s n p looks
+  over-bad e h = sym (and-no (noneOver t s n p (k - 1)) (lt-leb (be 4 s (p + getD t (2 + 16 * n + 2 * (k - 1)) 0)) (getD t (2 + 16 * n + 2 * (k - 1) + 1) 0) (omega arith))) ∙ last
 
-  pub over-more : {u : ℕ} → u ≡ be 4 s (p + getD t (1 + 9 * n + 2 * (k - 1)) 0) → u ≤ getD t (1 + 9 * n + 2 * (k - 1) + 1) 0 → Looked t s n p looks (k - 1)
+  pub over-more : {u : ℕ} → u ≡ be 4 s (p + getD t (2 + 16 * n + 2 * (k - 1)) 0) → u ≤ getD t (2 + 16 * n + 2 * (k - 1) + 1) 0 → Looked t s n p looks (k - 1)
   over-more e h =
       record {
         upto = omega (arith, i .upto);
         left =
             ap (λ (b : Bool). b && noneOver t s n p (k - 1))
-            (sym (le-leb (be 4 s (p + getD t (1 + 9 * n + 2 * (k - 1)) 0)) (getD t (1 + 9 * n + 2 * (k - 1) + 1) 0) (omega arith)))
+            (sym (le-leb (be 4 s (p + getD t (2 + 16 * n + 2 * (k - 1)) 0)) (getD t (2 + 16 * n + 2 * (k - 1) + 1) 0) (omega arith)))
             ∙ last;
       }
 

@@ -53,12 +53,12 @@ pub ruleset of-most = (most-number, most-range, most-listed, most-long)
 -- ---- places
 
 -- a store elsewhere keeps what is laid
-kept : (x : Node) (m : ℕ) (t : List ℕ) (i v : ℕ) → length (x .variables) ≤ 4 → (9 * m ≤ i → 9 * m + 9 ≤ i) → NodeLaid x m t → NodeLaid x m (set t i v)
+kept : (x : Node) (m : ℕ) (t : List ℕ) (i v : ℕ) → length (x .variables) ≤ 4 → (16 * m ≤ i → 16 * m + 16 ≤ i) → NodeLaid x m t → NodeLaid x m (set t i v)
 kept x m t i v few b w =
     record {
-      shape = getD-set-other t i (9 * m) v 0 (λ z. let y = b (omega arith) in omega arith) ∙ w .shape;
-      at = λ k h. getD-set-other t i (1 + 9 * m + 2 * k) v 0 (λ z. let y = b (omega arith) in omega arith) ∙ w .at k h;
-      most = λ k h. getD-set-other t i (1 + 9 * m + 2 * k + 1) v 0 (λ z. let y = b (omega arith) in omega arith) ∙ w .most k h;
+      shape = getD-set-other t i (16 * m) v 0 (λ z. let y = b (omega arith) in omega arith) ∙ w .shape;
+      at = λ k h. getD-set-other t i (2 + 16 * m + 2 * k) v 0 (λ z. let y = b (omega arith) in omega arith) ∙ w .at k h;
+      most = λ k h. getD-set-other t i (2 + 16 * m + 2 * k + 1) v 0 (λ z. let y = b (omega arith) in omega arith) ∙ w .most k h;
     }
 
 -- ---- the loop over a node's variables
@@ -72,8 +72,8 @@ pub record Laying (schema : List ℕ) (n : ℕ) (t₀ : List ℕ) (k w f : ℕ) 
   pub few : k ≤ 4
   pub flag : f ≤ k
   pub left : shapeFrom (drop k (nodeAt (schemaOf schema) n .variables)) w k f ≡ shapeOf (nodeAt (schemaOf schema) n)
-  pub at : (i : ℕ) → i < k → getD t (1 + 9 * n + 2 * i) 0 ≡ offsetOf (nodeAt (schemaOf schema) n) i
-  pub most : (i : ℕ) → i < k → getD t (1 + 9 * n + 2 * i + 1) 0 ≡ mostOf (getD (nodeAt (schemaOf schema) n .variables) i noVariable)
+  pub at : (i : ℕ) → i < k → getD t (2 + 16 * n + 2 * i) 0 ≡ offsetOf (nodeAt (schemaOf schema) n) i
+  pub most : (i : ℕ) → i < k → getD t (2 + 16 * n + 2 * i + 1) 0 ≡ mostOf (getD (nodeAt (schemaOf schema) n .variables) i noVariable)
 
 pub lay-start : (schema : List ℕ) (n : ℕ) (t : List ℕ) {c : ℕ} → Laid (schemaOf schema) n t → AtMost 8 (rankCount (nodeAt (schemaOf schema) n)) c → Laying schema n t 0 c 0 t
 unfolding shapeOf offsetOf spans
@@ -95,10 +95,10 @@ module _ (schema : List ℕ) {table : List ℕ} (n : ℕ) (t₀ : List ℕ) (k w
   abbrev vs : List Variable
   vs = nodeAt (schemaOf schema) n .variables
 
-  pub lay-place : 1 + 9 * n + 2 * k + 1 < length t
+  pub lay-place : 2 + 16 * n + 2 * k + 1 < length t
   lay-place = omega (arith, b .below, i .below .long, a .most)
 
-  lay-low : 1 + 9 * n + 2 * k < length t
+  lay-low : 2 + 16 * n + 2 * k < length t
   lay-low = omega (arith, lay-place)
 
   inside : k < length vs
@@ -107,15 +107,15 @@ module _ (schema : List ℕ) {table : List ℕ} (n : ℕ) (t₀ : List ℕ) (k w
   -- both stores
   module _ (v : ℕ) where
     abbrev stored : List ℕ
-    stored = set (set t (1 + 9 * n + 2 * k) w) (1 + 9 * n + 2 * k + 1) v
+    stored = set (set t (2 + 16 * n + 2 * k) w) (2 + 16 * n + 2 * k + 1) v
 
-    away : (j : ℕ) → (j ≡ 1 + 9 * n + 2 * k → ⊥) → (j ≡ 1 + 9 * n + 2 * k + 1 → ⊥) → getD stored j 0 ≡ getD t j 0
+    away : (j : ℕ) → (j ≡ 2 + 16 * n + 2 * k → ⊥) → (j ≡ 2 + 16 * n + 2 * k + 1 → ⊥) → getD stored j 0 ≡ getD t j 0
     away j p q =
-        getD-set-other (set t (1 + 9 * n + 2 * k) w) (1 + 9 * n + 2 * k + 1) j v 0 q
-        ∙ getD-set-other t (1 + 9 * n + 2 * k) j w 0 p
+        getD-set-other (set t (2 + 16 * n + 2 * k) w) (2 + 16 * n + 2 * k + 1) j v 0 q
+        ∙ getD-set-other t (2 + 16 * n + 2 * k) j w 0 p
 
     long-stored : length stored ≡ length t
-    long-stored = length-set (set t (1 + 9 * n + 2 * k) w) (1 + 9 * n + 2 * k + 1) v ∙ length-set t (1 + 9 * n + 2 * k) w
+    long-stored = length-set (set t (2 + 16 * n + 2 * k) w) (2 + 16 * n + 2 * k + 1) v ∙ length-set t (2 + 16 * n + 2 * k) w
 
     below-stored : Laid (schemaOf schema) n stored
     below-stored =
@@ -123,31 +123,31 @@ module _ (schema : List ℕ) {table : List ℕ} (n : ℕ) (t₀ : List ℕ) (k w
           long = omega (arith, i .below .long, long-stored);
           each = λ m l.
               let few = variables-few schema m (omega (arith, b .below)) in
-              kept (nodeAt (schemaOf schema) m) m (set t (1 + 9 * n + 2 * k) w) (1 + 9 * n + 2 * k + 1) v few (λ z. omega arith)
-              (kept (nodeAt (schemaOf schema) m) m t (1 + 9 * n + 2 * k) w few (λ z. omega arith) (i .below .each m l));
+              kept (nodeAt (schemaOf schema) m) m (set t (2 + 16 * n + 2 * k) w) (2 + 16 * n + 2 * k + 1) v few (λ z. omega arith)
+              (kept (nodeAt (schemaOf schema) m) m t (2 + 16 * n + 2 * k) w few (λ z. omega arith) (i .below .each m l));
         }
 
-    at-stored : (j : ℕ) → j < k + 1 → getD stored (1 + 9 * n + 2 * j) 0 ≡ offsetOf (nodeAt (schemaOf schema) n) j
+    at-stored : (j : ℕ) → j < k + 1 → getD stored (2 + 16 * n + 2 * j) 0 ≡ offsetOf (nodeAt (schemaOf schema) n) j
     at-stored j l = go (ℕ-discrete j k)
       where
-        go : Dec (j ≡ k) → getD stored (1 + 9 * n + 2 * j) 0 ≡ offsetOf (nodeAt (schemaOf schema) n) j
+        go : Dec (j ≡ k) → getD stored (2 + 16 * n + 2 * j) 0 ≡ offsetOf (nodeAt (schemaOf schema) n) j
         go (yes z) =
             rw z
-            (getD-set-other (set t (1 + 9 * n + 2 * k) w) (1 + 9 * n + 2 * k + 1) (1 + 9 * n + 2 * k) v 0 (λ y. omega arith)
-            ∙ getD-set-same t (1 + 9 * n + 2 * k) w 0 lay-low
+            (getD-set-other (set t (2 + 16 * n + 2 * k) w) (2 + 16 * n + 2 * k + 1) (2 + 16 * n + 2 * k) v 0 (λ y. omega arith)
+            ∙ getD-set-same t (2 + 16 * n + 2 * k) w 0 lay-low
             ∙ i .width)
-        go (no z) = away (1 + 9 * n + 2 * j) (λ y. z (omega arith)) (λ y. omega arith) ∙ i .at j (omega arith)
+        go (no z) = away (2 + 16 * n + 2 * j) (λ y. z (omega arith)) (λ y. omega arith) ∙ i .at j (omega arith)
 
-    most-stored : v ≡ mostOf (getD vs k noVariable) → (j : ℕ) → j < k + 1 → getD stored (1 + 9 * n + 2 * j + 1) 0 ≡ mostOf (getD vs j noVariable)
+    most-stored : v ≡ mostOf (getD vs k noVariable) → (j : ℕ) → j < k + 1 → getD stored (2 + 16 * n + 2 * j + 1) 0 ≡ mostOf (getD vs j noVariable)
     most-stored e j l = go (ℕ-discrete j k)
       where
-        go : Dec (j ≡ k) → getD stored (1 + 9 * n + 2 * j + 1) 0 ≡ mostOf (getD vs j noVariable)
+        go : Dec (j ≡ k) → getD stored (2 + 16 * n + 2 * j + 1) 0 ≡ mostOf (getD vs j noVariable)
         go (yes z) =
             rw z
-            (getD-set-same (set t (1 + 9 * n + 2 * k) w) (1 + 9 * n + 2 * k + 1) v 0
-            (omega (arith, length-set t (1 + 9 * n + 2 * k) w, lay-place))
+            (getD-set-same (set t (2 + 16 * n + 2 * k) w) (2 + 16 * n + 2 * k + 1) v 0
+            (omega (arith, length-set t (2 + 16 * n + 2 * k) w, lay-place))
             ∙ e)
-        go (no z) = away (1 + 9 * n + 2 * j + 1) (λ y. omega arith) (λ y. z (omega arith)) ∙ i .most j (omega arith)
+        go (no z) = away (2 + 16 * n + 2 * j + 1) (λ y. omega arith) (λ y. z (omega arith)) ∙ i .most j (omega arith)
 
   shape-next : shapeFrom (getD vs k noVariable ∷ drop (k + 1) vs) w k f ≡ shapeOf (nodeAt (schemaOf schema) n)
   shape-next = ap (λ (l : List Variable). shapeFrom l w k f) (sym (rw (add-one k) (drop-cons vs k noVariable inside))) ∙ i .left
@@ -199,41 +199,41 @@ module _ (schema : List ℕ) {table : List ℕ} (n : ℕ) (t₀ : List ℕ) (k w
 -- ---- the node done, and all of them
 
 pub lay-done : (schema : List ℕ) {table : List ℕ} (n : ℕ) (t₀ : List ℕ) (k w f : ℕ) (t : List ℕ) {c : ℕ} → Laying schema n t₀ k w f t → NodeIn schema table n → c ≤ k
-    → AtMost 4 (length (nodeAt (schemaOf schema) n .variables)) c → Laid (schemaOf schema) (n + 1) (set t (9 * n) (8 * w + f))
+    → AtMost 4 (length (nodeAt (schemaOf schema) n .variables)) c → Laid (schemaOf schema) (n + 1) (set t (16 * n) (8 * w + f))
 unfolding shapeFrom
 lay-done schema n t₀ k w f t i b h a =
-    record { long = omega (arith, length-set t (9 * n) (8 * w + f), i .below .long); each = λ m l. go m l (ℕ-discrete m n) }
+    record { long = omega (arith, length-set t (16 * n) (8 * w + f), i .below .long); each = λ m l. go m l (ℕ-discrete m n) }
   where
-    go : (m : ℕ) → m < n + 1 → Dec (m ≡ n) → NodeLaid (nodeAt (schemaOf schema) m) m (set t (9 * n) (8 * w + f))
+    go : (m : ℕ) → m < n + 1 → Dec (m ≡ n) → NodeLaid (nodeAt (schemaOf schema) m) m (set t (16 * n) (8 * w + f))
     go m l (no z) =
-        kept (nodeAt (schemaOf schema) m) m t (9 * n) (8 * w + f) (variables-few schema m (omega (arith, b .below))) (λ y. omega arith)
+        kept (nodeAt (schemaOf schema) m) m t (16 * n) (8 * w + f) (variables-few schema m (omega (arith, b .below))) (λ y. omega arith)
         (i .below .each m (omega arith))
     go m l (yes z) =
-        subst (λ (j : ℕ). NodeLaid (nodeAt (schemaOf schema) j) j (set t (9 * n) (8 * w + f))) (sym z)
+        subst (λ (j : ℕ). NodeLaid (nodeAt (schemaOf schema) j) j (set t (16 * n) (8 * w + f))) (sym z)
         (record {
           shape =
-              getD-set-same t (9 * n) (8 * w + f) 0 (omega (arith, b .below, i .below .long))
+              getD-set-same t (16 * n) (8 * w + f) 0 (omega (arith, b .below, i .below .long))
               ∙ (rw (drop-of-length-le (nodeAt (schemaOf schema) n .variables) {i = k} (omega (arith, a .is))) at (i .left));
-          at = λ j r. getD-set-other t (9 * n) (1 + 9 * n + 2 * j) (8 * w + f) 0 (λ y. omega arith) ∙ i .at j (omega (arith, a .is));
-          most = λ j r. getD-set-other t (9 * n) (1 + 9 * n + 2 * j + 1) (8 * w + f) 0 (λ y. omega arith) ∙ i .most j (omega (arith, a .is));
+          at = λ j r. getD-set-other t (16 * n) (2 + 16 * n + 2 * j) (8 * w + f) 0 (λ y. omega arith) ∙ i .at j (omega (arith, a .is));
+          most = λ j r. getD-set-other t (16 * n) (2 + 16 * n + 2 * j + 1) (8 * w + f) 0 (λ y. omega arith) ∙ i .most j (omega (arith, a .is));
         })
 
 -- a node's own place
-pub lay-own : (schema : List ℕ) {table : List ℕ} (n : ℕ) (t₀ : List ℕ) (k w f : ℕ) (t : List ℕ) → Laying schema n t₀ k w f t → NodeIn schema table n → 9 * n < length t
+pub lay-own : (schema : List ℕ) {table : List ℕ} (n : ℕ) (t₀ : List ℕ) (k w f : ℕ) (t : List ℕ) → Laying schema n t₀ k w f t → NodeIn schema table n → 16 * n < length t
 lay-own schema n t₀ k w f t i b = omega (arith, b .below, i .below .long)
 
-pub lay-same : (schema : List ℕ) (n : ℕ) (t₀ : List ℕ) (k w f : ℕ) (t : List ℕ) (v : ℕ) → Laying schema n t₀ k w f t → length (set t (9 * n) v) ≡ length t₀
-lay-same schema n t₀ k w f t v i = length-set t (9 * n) v ∙ i .same
+pub lay-same : (schema : List ℕ) (n : ℕ) (t₀ : List ℕ) (k w f : ℕ) (t : List ℕ) (v : ℕ) → Laying schema n t₀ k w f t → length (set t (16 * n) v) ≡ length t₀
+lay-same schema n t₀ k w f t v i = length-set t (16 * n) v ∙ i .same
 
 -- zeros, enough of them for the nodes
-laid-none : (g : List Node) (m : ℕ) → 1 + 9 * length g ≤ m → Laid g 0 (replicate m 0)
+laid-none : (g : List Node) (m : ℕ) → 1 + 16 * length g ≤ m → Laid g 0 (replicate m 0)
 laid-none g m h = record { long = omega (arith, length-replicate {A = ℕ} m 0); each = λ m h. absurd (omega arith) }
 
-pub laid-16 : (schema : List ℕ) {table : List ℕ} {count : ℕ} → SchemaIn schema table count → count ≤ 16 → Laid (schemaOf schema) 0 (replicate 145 0)
-laid-16 schema s h = laid-none (schemaOf schema) 145 (omega (arith, s .counted))
+pub laid-16 : (schema : List ℕ) {table : List ℕ} {count : ℕ} → SchemaIn schema table count → count ≤ 16 → Laid (schemaOf schema) 0 (replicate 257 0)
+laid-16 schema s h = laid-none (schemaOf schema) 257 (omega (arith, s .counted))
 
-pub laid-64 : (schema : List ℕ) → Laid (schemaOf schema) 0 (replicate 577 0)
-laid-64 schema = laid-none (schemaOf schema) 577 (omega (arith, nodes-few schema))
+pub laid-64 : (schema : List ℕ) → Laid (schemaOf schema) 0 (replicate 1025 0)
+laid-64 schema = laid-none (schemaOf schema) 1025 (omega (arith, nodes-few schema))
 
 -- the nodes below n are laid; the layout is as long as it was
 pub record LayingAll (g : List Node) (t₀ : List ℕ) (n : ℕ) (t : List ℕ) : Type 0 where

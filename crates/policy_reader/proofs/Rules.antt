@@ -124,7 +124,7 @@ pub record Filling (g : List Node) (l s : List ℕ) (j : ℕ) (t₀ : List ℕ) 
   pub left : runOf (fillRules j p) (rules g s k low p) t ≡ X
   pub same : length t ≡ length t₀
   pub room : 16 + 16 * length g ≤ length t
-  pub known : ahead ≡ getD l (9 * low) 0
+  pub known : ahead ≡ getD l (16 * low) 0
 
 pub rules-start : (schema l s : List ℕ) (j k p : ℕ) (t : List ℕ) → Long schema t
     → Filling (schemaOf schema) l s j t (runOf (fillRules j p) (rules (schemaOf schema) s k 0 p) t) k 0 (getD l 0 0) p t
@@ -143,7 +143,7 @@ module _ (g : List Node) (l s : List ℕ) (j : ℕ) (t₀ : List ℕ) {X : Run} 
     rules-bad (suc k) i a e h = rw (rule-none p (rule g s low p) e h) at (i .left)
 
     pub rules-more : (k : ℕ) {n b above q : ℕ} → Filling g l s j t₀ X k low ahead p t → 0 < k → f ≡ ruleRead p (rule g s low p) → f ≡ Named n b above q
-        → Filling g l s j t₀ X (k - 1) above (getD l (9 * above) 0) q (set t (16 + 16 * n + j) b)
+        → Filling g l s j t₀ X (k - 1) above (getD l (16 * above) 0) q (set t (16 + 16 * n + j) b)
     unfolding rules many part
     rules-more zero i a e h = absurd (omega arith)
     rules-more (suc k) {n} {b} {above} {q} i a e h =
@@ -194,24 +194,24 @@ module _ (schema : List ℕ) (s : List ℕ) (low p : ℕ) {f : RuleRead} {n b ab
   rule-above : above ≤ 64
   rule-above = let w = rule-took p (rule (schemaOf schema) s low p) e h in omega (arith, w .low, rule-small)
 
-  pub above-fits : Fits w64 (9 * above)
+  pub above-fits : Fits w64 (16 * above)
   above-fits = record { fits = omega (arith, rule-above) }
 
-  pub above-scaled : Fits w64 (9 * above * 8)
+  pub above-scaled : Fits w64 (16 * above * 4)
   above-scaled = record { fits = omega (arith, rule-above) }
 
-  pub above-place : {l : List ℕ} {count : ℕ} → Laid (schemaOf schema) count l → 9 * above < length l
+  pub above-place : {l : List ℕ} {count : ℕ} → Laid (schemaOf schema) count l → 16 * above < length l
   above-place w = let o = rule-took p (rule (schemaOf schema) s low p) e h in omega (arith, o .low, rule-below, w .long)
 
 pub first-place : (g : List Node) (l : List ℕ) {count : ℕ} → Laid g count l → 0 < length l
 first-place g l w = omega (arith, w .long)
 
 -- what the layout holds of the node
-pub node-place : (schema : List ℕ) (l : List ℕ) (v : ℕ) {t : List ℕ} {count : ℕ} → SchemaIn schema t count → Laid (schemaOf schema) count l → v < count → 9 * v < length l
+pub node-place : (schema : List ℕ) (l : List ℕ) (v : ℕ) {t : List ℕ} {count : ℕ} → SchemaIn schema t count → Laid (schemaOf schema) count l → v < count → 16 * v < length l
 node-place schema l v w k h = omega (arith, k .long, w .counted)
 
 pub node-few : (schema : List ℕ) (v : ℕ) {t : List ℕ} {count : ℕ} → SchemaIn schema t count → v < count → v < 64
 node-few schema v w h = omega (arith, w .counted, nodes-few schema)
 
-pub shape-ahead : (l : List ℕ) (n low ahead : ℕ) → ahead ≡ getD l (9 * low) 0 → n ≡ low → (ahead ≡ getD l (9 * n) 0) × (low + 1 ≡ n + 1)
-shape-ahead l n low ahead e h = (e ∙ ap (λ (i : ℕ). getD l (9 * i) 0) (sym h), ap (λ (i : ℕ). i + 1) (sym h))
+pub shape-ahead : (l : List ℕ) (n low ahead : ℕ) → ahead ≡ getD l (16 * low) 0 → n ≡ low → (ahead ≡ getD l (16 * n) 0) × (low + 1 ≡ n + 1)
+shape-ahead l n low ahead e h = (e ∙ ap (λ (i : ℕ). getD l (16 * i) 0) (sym h), ap (λ (i : ℕ). i + 1) (sym h))

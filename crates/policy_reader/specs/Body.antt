@@ -28,25 +28,25 @@ shapeFrom (Listed size ∷ vs) w k f = shapeFrom vs (w + 4) (k + 1) (k + 1)
 unfoldable pub shapeOf : Node → ℕ
 shapeOf x = shapeFrom (x .variables) (rankCount x) 0 0
 
--- what the layout t holds of node n, which is x: at 9 n its shape, then the offset and the greatest number of each condition
+-- what the layout t holds of node n, which is x: at 16 n its shape, from 16 n + 2 on the offset and the greatest number of each condition
 pub record NodeLaid (x : Node) (n : ℕ) (t : List ℕ) : Type 0 where
-  pub shape : getD t (9 * n) 0 ≡ shapeOf x
-  pub at : (k : ℕ) → k < length (x .variables) → getD t (1 + 9 * n + 2 * k) 0 ≡ offsetOf x k
-  pub most : (k : ℕ) → k < length (x .variables) → getD t (1 + 9 * n + 2 * k + 1) 0 ≡ mostOf (getD (x .variables) k noVariable)
+  pub shape : getD t (16 * n) 0 ≡ shapeOf x
+  pub at : (k : ℕ) → k < length (x .variables) → getD t (2 + 16 * n + 2 * k) 0 ≡ offsetOf x k
+  pub most : (k : ℕ) → k < length (x .variables) → getD t (2 + 16 * n + 2 * k + 1) 0 ≡ mostOf (getD (x .variables) k noVariable)
 
 -- t holds the layout of the nodes below n; there is a place for the shape of one node more
 pub record Laid (g : List Node) (n : ℕ) (t : List ℕ) : Type 0 where
-  pub long : 1 + 9 * length g ≤ length t
+  pub long : 1 + 16 * length g ≤ length t
   pub each : (m : ℕ) → m < n → NodeLaid (nodeAt g m) m t
 
 -- no condition of the first k exceeds its greatest number, in a PN of node n whose ranks begin at p
 unfoldable pub noneOver : List ℕ → List ℕ → ℕ → ℕ → ℕ → Bool
 noneOver t s n p zero = true
-noneOver t s n p (suc k) = leb (be 4 s (p + getD t (1 + 9 * n + 2 * k) 0)) (getD t (1 + 9 * n + 2 * k + 1) 0) && noneOver t s n p k
+noneOver t s n p (suc k) = leb (be 4 s (p + getD t (2 + 16 * n + 2 * k) 0)) (getD t (2 + 16 * n + 2 * k + 1) 0) && noneOver t s n p k
 
 -- the first k conditions are there
 pub record Looking (t s : List ℕ) (n k p : ℕ) : Type 0 where
   pub node : n < 64
-  pub long : 1 + 9 * n + 8 ≤ length t
+  pub long : 2 + 16 * n + 8 ≤ length t
   pub few : k ≤ 4
-  pub there : (i : ℕ) → i < k → p + getD t (1 + 9 * n + 2 * i) 0 + 4 ≤ length s
+  pub there : (i : ℕ) → i < k → p + getD t (2 + 16 * n + 2 * i) 0 + 4 ≤ length s

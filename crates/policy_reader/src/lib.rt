@@ -205,7 +205,7 @@ fn read_fields(schema: &[u8], table: &[usize], n: usize, b: &[u8], from: usize) 
 }
 
 // The greatest number that the mask of node n's variable k may spell.
-fn most_of(schema: &[u8], table: &[usize], n: usize, k: usize) -> usize
+fn most_of(schema: &[u8], table: &[usize], n: usize, k: usize) -> u32
     requires { ⌜ NodeIn (now schema) (now table) n ⌝ }
     requires { ⌜ k < length (nodeAt (schemaOf (now schema)) n .variables) ⌝ }
     ensures { λ r. ⌜ r ≡ mostOf (variableAt (schemaOf (now (schema .entry))) n k) ⌝ }
@@ -217,7 +217,7 @@ fn most_of(schema: &[u8], table: &[usize], n: usize, k: usize) -> usize
         Variable::Number { lo: _, hi: _ } => 0xffff_ffff,
         Variable::Listed { size } => {
             if size <= 32 {
-                return numbers::all_values(size) as usize;
+                return numbers::all_values(size);
             }
             0xffff_ffff
         }
@@ -225,7 +225,7 @@ fn most_of(schema: &[u8], table: &[usize], n: usize, k: usize) -> usize
 }
 
 // Two numbers side by side.
-fn put_pair(layout: &mut [usize], at: usize, x: usize, y: usize)
+fn put_pair(layout: &mut [u32], at: usize, x: u32, y: u32)
     requires { ⌜ at + 1 < length (now layout) ⌝ }
     ensures { λ _. ⌜ now (layout .exit) ≡ set (set (now (layout .entry)) at x) (at + 1) y ⌝ }
 {
@@ -235,32 +235,32 @@ fn put_pair(layout: &mut [usize], at: usize, x: usize, y: usize)
 
 // The layout of node n, after those below it: eight times the bytes of its ranks and conditions, and how many variables
 // there are up to the last listed one; then the offset and the greatest number of each condition.
-fn lay_out(schema: &[u8], table: &[usize], n: usize, layout: &mut [usize])
+fn lay_out(schema: &[u8], table: &[usize], n: usize, layout: &mut [u32])
     requires { ⌜ NodeIn (now schema) (now table) n ⌝ }
     requires { ⌜ Laid (schemaOf (now schema)) n (now layout) ⌝ }
     ensures { λ _. ⌜ Laid (schemaOf (now (schema .entry))) (n + 1) (now (layout .exit)) ⌝ }
 {
     let v = nodes::variable_count(schema, table, n);
-    let mut w = policies::rank_count(schema, table, n);
-    let mut f: usize = 0;
+    let mut w = policies::rank_count(schema, table, n) as u32;
+    let mut f: u32 = 0;
     let mut k: usize = 0;
     while k < v {
         let most = most_of(schema, table, n, k);
-        put_pair(layout, 1 + 9 * n + 2 * k, w, most);
+        put_pair(layout, 2 + 16 * n + 2 * k, w, most);
         if nodes::is_number(schema, table, n, k) {
             w += 8;
             k += 1;
         } else {
             w += 4;
             k += 1;
-            f = k;
+            f = k as u32;
         }
     }
-    layout[9 * n] = 8 * w + f;
+    layout[16 * n] = 8 * w + f;
 }
 
 // The layout of all nodes.
-fn lay_all(schema: &[u8], table: &[usize], count: usize, layout: &mut [usize])
+fn lay_all(schema: &[u8], table: &[usize], count: usize, layout: &mut [u32])
     requires { ⌜ SchemaIn (now schema) (now table) count ⌝ }
     requires { ⌜ Laid (schemaOf (now schema)) 0 (now layout) ⌝ }
     ensures { λ _. ⌜ Laid (schemaOf (now (schema .entry))) count (now (layout .exit)) ⌝ }
@@ -273,16 +273,16 @@ fn lay_all(schema: &[u8], table: &[usize], count: usize, layout: &mut [usize])
 }
 
 // Whether no condition of node n up to the last listed one exceeds its greatest number; all of them are there.
-fn none_over(layout: &[usize], n: usize, looks: usize, b: &[u8], from: usize) -> bool
+fn none_over(layout: &[u32], n: usize, looks: usize, b: &[u8], from: usize) -> bool
     requires { ⌜ Looking (now layout) (now b) n looks from ⌝ }
     ensures { λ r. ⌜ r ≡ noneOver (now (layout .entry)) (now (b .entry)) n from looks ⌝ }
 {
     let mut k = looks;
     while 0 < k {
         k -= 1;
-        let at = layout[1 + 9 * n + 2 * k];
-        let most = layout[1 + 9 * n + 2 * k + 1];
-        if most < (fields::u32_at(b, from + at) as usize) {
+        let at = layout[2 + 16 * n + 2 * k] as usize;
+        let most = layout[2 + 16 * n + 2 * k + 1];
+        if most < fields::u32_at(b, from + at) {
             return false;
         }
     }
@@ -291,17 +291,17 @@ fn none_over(layout: &[usize], n: usize, looks: usize, b: &[u8], from: usize) ->
 
 // What the layout holds of a node, and the lowest node that may follow it.
 struct Shape {
-    shape: usize,
+    shape: u32,
     low: usize,
 }
 
 // As a rule a PN names the lowest node that may follow the one before. What the layout holds of that is known ahead, so
 // that the place of the next PN need not wait for this one's node.
-fn shape_of(layout: &[usize], n: usize, low: usize, ahead: usize) -> Shape
-    requires { ⌜ ahead ≡ getD (now layout) (9 * low) 0 ⌝ }
+fn shape_of(layout: &[u32], n: usize, low: usize, ahead: u32) -> Shape
+    requires { ⌜ ahead ≡ getD (now layout) (16 * low) 0 ⌝ }
     requires { ⌜ n < 64 ⌝ }
-    requires { ⌜ 9 * n < length (now layout) ⌝ }
-    ensures { λ r. ⌜ (r .shape ≡ getD (now (layout .entry)) (9 * n) 0) × (r .low ≡ n + 1) ⌝ }
+    requires { ⌜ 16 * n < length (now layout) ⌝ }
+    ensures { λ r. ⌜ (r .shape ≡ getD (now (layout .entry)) (16 * n) 0) × (r .low ≡ n + 1) ⌝ }
 {
     if n == low {
         return Shape {
@@ -310,7 +310,7 @@ fn shape_of(layout: &[usize], n: usize, low: usize, ahead: usize) -> Shape
         };
     }
     Shape {
-        shape: layout[9 * n],
+        shape: layout[16 * n],
         low: n + 1,
     }
 }
@@ -319,23 +319,22 @@ fn shape_of(layout: &[usize], n: usize, low: usize, ahead: usize) -> Shape
 fn read_body(
     schema: &[u8],
     table: &[usize],
-    layout: &[usize],
+    layout: &[u32],
     n: usize,
-    shape: usize,
+    shape: u32,
     b: &[u8],
     from: usize,
 ) -> Step
     requires { ⌜ NodeIn (now schema) (now table) n ⌝ }
     requires { ⌜ Laid (schemaOf (now schema)) (length (schemaOf (now schema))) (now layout) ⌝ }
-    requires { ⌜ shape ≡ getD (now layout) (9 * n) 0 ⌝ }
+    requires { ⌜ shape ≡ getD (now layout) (16 * n) 0 ⌝ }
     requires { ⌜ from ≤ length (now b) ⌝ }
     ensures { λ r. ⌜ r ≡ stepOf (ruleOf (now (b .entry)) (nodeAt (schemaOf (now (schema .entry))) n) n from) ⌝ }
 {
-    if shape / 8 <= b.len() - from {
-        if none_over(layout, n, shape % 8, b, from) {
-            return Step::Next {
-                at: from + shape / 8,
-            };
+    let width = (shape / 8) as usize;
+    if width <= b.len() - from {
+        if none_over(layout, n, (shape % 8) as usize, b, from) {
+            return Step::Next { at: from + width };
         }
         return read_fields(schema, table, n, b, from);
     }
@@ -346,16 +345,16 @@ fn read_body(
 fn read_rule(
     schema: &[u8],
     table: &[usize],
-    layout: &[usize],
+    layout: &[u32],
     count: usize,
     b: &[u8],
     low: usize,
-    ahead: usize,
+    ahead: u32,
     from: usize,
 ) -> RuleRead
     requires { ⌜ SchemaIn (now schema) (now table) count ⌝ }
     requires { ⌜ Laid (schemaOf (now schema)) count (now layout) ⌝ }
-    requires { ⌜ ahead ≡ getD (now layout) (9 * low) 0 ⌝ }
+    requires { ⌜ ahead ≡ getD (now layout) (16 * low) 0 ⌝ }
     ensures { λ r. ⌜ r ≡ ruleRead from (rule (schemaOf (now (schema .entry))) (now (b .entry)) low from) ⌝ }
 {
     match reading::read_mark(b, from, b"PN") {
@@ -395,7 +394,7 @@ fn read_rule(
 fn read_rules(
     schema: &[u8],
     table: &[usize],
-    layout: &[usize],
+    layout: &[u32],
     count: usize,
     b: &[u8],
     j: usize,
@@ -426,7 +425,7 @@ fn read_rules(
             } => {
                 index[16 + 16 * node + j] = body;
                 low = above;
-                ahead = layout[9 * above];
+                ahead = layout[16 * above];
                 at = next;
                 left -= 1;
             }
@@ -439,7 +438,7 @@ fn read_rules(
 fn read_policy(
     schema: &[u8],
     table: &[usize],
-    layout: &[usize],
+    layout: &[u32],
     count: usize,
     p: &[u8],
     head: usize,
@@ -471,7 +470,7 @@ fn read_policy(
 fn read_file(
     schema: &[u8],
     table: &[usize],
-    layout: &[usize],
+    layout: &[u32],
     count: usize,
     p: &[u8],
     index: &mut [usize],
@@ -521,7 +520,7 @@ fn clear(index: &mut [usize])
 fn read_by_layout(
     schema: &[u8],
     table: &[usize],
-    layout: &mut [usize],
+    layout: &mut [u32],
     count: usize,
     p: &[u8],
     index: &mut [usize],
@@ -555,9 +554,9 @@ pub fn read_policies(
     ensures { λ r. ⌜ Told (now (schema .entry)) (now (p .entry)) r (now (index .exit)) ⌝ }
 {
     if count <= 16 {
-        let mut layout = [0usize; 145];
+        let mut layout = [0u32; 257];
         return read_by_layout(schema, table, &mut layout, count, p, index);
     }
-    let mut layout = [0usize; 577];
+    let mut layout = [0u32; 1025];
     read_by_layout(schema, table, &mut layout, count, p, index)
 }

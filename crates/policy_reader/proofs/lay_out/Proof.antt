@@ -20,6 +20,9 @@ variable-count-requires c κs = search needs
 rank-count-requires : tie.Need-rank-count-requires Inv-loop μ-loop
 rank-count-requires c κs = search needs
 
+cast-w : tie.Need-cast-w Inv-loop μ-loop
+cast-w c = search needs
+
 loop-holds : tie.Need-loop-holds Inv-loop μ-loop
 loop-holds c = search lay-start
 
@@ -75,6 +78,9 @@ add-w-2 c = search needs
 add-k-2 : tie.Need-add-k-2 Inv-loop μ-loop
 add-k-2 c = search needs
 
+cast-f : tie.Need-cast-f Inv-loop μ-loop
+cast-f c = search needs
+
 loop-less-2 : tie.Need-loop-less-2 Inv-loop μ-loop
 loop-less-2 c = search needs
 
@@ -110,6 +116,7 @@ lay-out-spec =
     μ-loop
     variable-count-requires
     rank-count-requires
+    cast-w
     loop-holds
     most-of-requires
     mul-put-pair
@@ -124,6 +131,7 @@ lay-out-spec =
     loop-again
     add-w-2
     add-k-2
+    cast-f
     loop-less-2
     loop-again-2
     mul-layout

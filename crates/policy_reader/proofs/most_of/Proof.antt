@@ -23,9 +23,6 @@ enum-known-size c = search needs
 all-values-requires : tie.Need-all-values-requires
 all-values-requires c κs = search needs
 
-cast-result : tie.Need-cast-result
-cast-result c = search needs
-
 returns-2 : tie.Need-returns-2
 returns-2 c = search of-most
 
@@ -45,7 +42,6 @@ most-of-spec =
     enum-told
     enum-known-size
     all-values-requires
-    cast-result
     returns-2
     returns-3
     returns-4)

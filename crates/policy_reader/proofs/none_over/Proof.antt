@@ -1,7 +1,7 @@
 -- What is left to look at equals the whole.
 -- Rests on the laws of the loop over the conditions.
 use borrow.Author.Needs.{needs}
-use Rattle.policy_reader.proofs.Body.{Looked, over-start, over-there, over-fits, over-bad, over-more, over-done}
+use Rattle.policy_reader.proofs.Body.{Looked, over-start, over-there, over-cast, over-fits, over-bad, over-more, over-done}
 use Rattle.policy_reader.proofs.none_over.Statement.{statement}
 use Rattle.policy_reader.proofs.none_over.Tie as tie
 
@@ -35,6 +35,9 @@ mul-at-3 c = search needs
 shared-slice-read-at : tie.Need-shared-slice-read-at Inv-loop μ-loop
 shared-slice-read-at c = search needs
 
+cast-at : tie.Need-cast-at Inv-loop μ-loop
+cast-at c = search over-cast
+
 mul-most : tie.Need-mul-most Inv-loop μ-loop
 mul-most c = search needs
 
@@ -62,9 +65,6 @@ add-u32-at c = search over-fits
 u32-at-requires : tie.Need-u32-at-requires Inv-loop μ-loop
 u32-at-requires c κs = search over-there
 
-cast-if1 : tie.Need-cast-if1 Inv-loop μ-loop
-cast-if1 c = search needs
-
 returns : tie.Need-returns Inv-loop μ-loop
 returns c = search over-bad
 
@@ -91,6 +91,7 @@ none-over-spec =
     add-at-2
     mul-at-3
     shared-slice-read-at
+    cast-at
     mul-most
     add-most
     mul-most-2
@@ -100,7 +101,6 @@ none-over-spec =
     shared-slice-read-most
     add-u32-at
     u32-at-requires
-    cast-if1
     returns
     loop-less
     loop-again

@@ -5,14 +5,20 @@ use borrow.Author.Needs.{needs}
 use Rattle.policy_reader.proofs.read_body.Statement.{statement}
 use Rattle.policy_reader.proofs.read_body.Tie as tie
 
+cast-width : tie.Need-cast-width
+cast-width c = search needs
+
 sub-if1 : tie.Need-sub-if1
 sub-if1 c = search needs
+
+cast-none-over : tie.Need-cast-none-over
+cast-none-over c = search needs
 
 none-over-requires : tie.Need-none-over-requires
 none-over-requires c κs = search body-looking
 
-add-t15 : tie.Need-add-t15
-add-t15 c = search needs
+add-t16 : tie.Need-add-t16
+add-t16 c = search needs
 
 returns : tie.Need-returns
 returns c = search body-read
@@ -33,9 +39,11 @@ pub read-body-spec : {M : Type 1} → statement M
 read-body-spec =
     tie.close
     (tie.spec
+    cast-width
     sub-if1
+    cast-none-over
     none-over-requires
-    add-t15
+    add-t16
     returns
     read-fields-requires
     returns-2
