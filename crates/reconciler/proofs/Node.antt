@@ -40,9 +40,12 @@ node-columns schema table n h m e q =
     let z = and-true (eqb (nodeAt (schemaOf schema) n .kind) 1) (ltb 0 (length (nodeAt (schemaOf schema) n .successors))) (sym e ∙ q) in
     record { below = h .below; is = m .is; ranked = m .is ∙ rw (z .0); most = m .most }
 
-module _ (schema table p : List ℕ) (a b n : ℕ) (nodes t₀ t : List ℕ) {c : Conditions} (h : NodeIn schema table n) (C : c ≡ recordOf (combined (schemaOf schema) (forced a b (policiesOf (schemaOf schema) p)) n)) where
+module _ (schema table p : List ℕ) (a b n : ℕ) (nodes t₀ t : List ℕ) (h : NodeIn schema table n) where
+  abbrev c : Conditions
+  c = recordOf (combined (schemaOf schema) (forced a b (policiesOf (schemaOf schema) p)) n)
+
   least-same : leastEach (conditionsIn c 0 (nodeAt (schemaOf schema) n .variables)) ≡ rulesIn schema p a b .least n
-  least-same = ap leastEach (held-all (schemaOf schema) (forced a b (policiesOf (schemaOf schema) p)) n C (here schema table n h .one .few-variables))
+  least-same = ap leastEach (held-all (schemaOf schema) (forced a b (policiesOf (schemaOf schema) p)) n refl (here schema table n h .one .few-variables))
 
   unmet : LeastIn (schemaOf schema) n c t₀ t false ⊎ (LeastIn (schemaOf schema) n c t₀ t true)
       → false ≡ canStep (schemaOf schema) (rulesIn schema p a b) (inSet nodes) n → NodePlanned schema p a b n nodes t₀ t Unmet

@@ -1,6 +1,6 @@
 -- The least values left at a node: each variable's own, found one after the other; the first without one ends it.
 -- Rests on the model's `least`, and on bits that are read back as the value.
-use mathlib.Core.Path.{_≡_, refl, ap, ap₂, sym, _∙_}
+use mathlib.Core.Path.{_≡_, refl, ap, ap₂, sym, subst, _∙_}
 use mathlib.Core.Logic.{_⊎_, inl, inr}
 use mathlib.Core.Bool.{Bool, true, false, cond}
 use mathlib.Core.List.{List, [], _∷_}
@@ -187,3 +187,10 @@ finding-done s n c t₀ k t w m l =
     let q = each-some c 0 (nodeAt (schemaOf s) n .variables) t (4 * n)
     (λ i h. ap (λ (j : ℕ). least (conditionIn c (getD (nodeAt (schemaOf s) n .variables) i noVariable) j)) (zero-add i) ∙ w .so-far i (omega (arith, m .is))) in
     record { found = sym (ap isSome q); values = λ _. q; others = w .others; long = w .long }
+
+-- a node without variables has them all
+pub least-empty : (s : List ℕ) (n : ℕ) (c : Conditions) (t : List ℕ) {v : ℕ} → AtMost 4 (length (nodeAt (schemaOf s) n .variables)) v → v ≡ 0 → LeastIn (schemaOf s) n c t t true
+least-empty s n c t m e = finding-done s n c t 0 t (finding-none (schemaOf s) n c t) m (omega arith)
+
+pub least-same : (g : List Node) (n : ℕ) {c d : Conditions} (t₀ t : List ℕ) {r : Bool} → c ≡ d → LeastIn g n c t₀ t r → LeastIn g n d t₀ t r
+least-same g n t₀ t {r} e w = subst (λ (c : Conditions). LeastIn g n c t₀ t r) e w

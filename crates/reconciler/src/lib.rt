@@ -10,7 +10,8 @@ ghost use Rattle.policies.specs.Pass.{forced, InForce};
 ghost use Rattle.policies.specs.Index.{IndexIn, Indexed, IndexRoom, SchemaIn};
 ghost use Rattle.instances.specs.File.{encode};
 ghost use Rattle.instances.specs.Plan.{planned, planOf, BitsRoom};
-ghost use Rattle.model.specs.Reconciling.{reconciled};
+ghost use Rattle.model.specs.Reconciling.{combined, reconciled};
+ghost use Rattle.conditions.specs.Held.{recordOf};
 ghost use Rattle.conditions.specs.Places.{SaidAt, Found};
 ghost use Rattle.calls.specs.Calls.{given, reconcilingUnder, reconciling};
 ghost use Rattle.reconciler.specs.Plan.{LeftIs, LeastIn, Columns, Ranked, RowCopied, RowFilled, SuccessorsIn, Chosen, NodePlanned, Planned, plannedIn};
@@ -75,6 +76,30 @@ fn least_values(schema: &[u8], table: &[usize], n: usize, c: Conditions, bits: &
         }
     }
     true
+}
+
+// The bits of node n's least values, under all conditions, into its four places; whether each variable has one left.
+fn fill_values(
+    schema: &[u8],
+    table: &[usize],
+    p: &[u8],
+    places: &[usize; 16],
+    rows: usize,
+    a: u16,
+    b: u16,
+    n: usize,
+    bits: &mut [u32],
+) -> bool
+    requires { ⌜ NodeIn (now schema) (now table) n ⌝ }
+    requires { ⌜ Found (now schema) (now p) a b n rows (now places) ⌝ }
+    requires { ⌜ BitsRoom (now schema) (now bits) ⌝ }
+    ensures { λ r. ⌜ LeastIn (schemaOf (now (schema .entry))) n (recordOf (combined (schemaOf (now (schema .entry))) (forced a b (policiesOf (schemaOf (now (schema .entry))) (now (p .entry)))) n)) (now (bits .entry)) (now (bits .exit)) r ⌝ }
+{
+    if nodes::variable_count(schema, table, n) == 0 {
+        return true;
+    }
+    let c = conditions::combine(schema, table, p, places, rows, a, b, n);
+    least_values(schema, table, n, c, bits)
 }
 
 // The rank of node n's successor k in policy j of those in force, which speaks of the node from a place on.
@@ -223,8 +248,7 @@ fn plan_at(
     requires { ⌜ BitsRoom (now schema) (now bits) ⌝ }
     ensures { λ r. ⌜ NodePlanned (now (schema .entry)) (now (p .entry)) a b n (now (nodes .entry)) (now (bits .entry)) (now (bits .exit)) r ⌝ }
 {
-    let c = conditions::combine(schema, table, p, places, rows, a, b, n);
-    if least_values(schema, table, n, c, bits) {
+    if fill_values(schema, table, p, places, rows, a, b, n, bits) {
         if instances::chooses(schema, table, n) {
             let columns = nodes::successor_count(schema, table, n);
             let k = choose(schema, table, p, places, rows, a, b, n, columns, nodes);

@@ -5,11 +5,8 @@ use borrow.Author.Needs.{needs}
 use Rattle.reconciler.proofs.plan_at.Statement.{statement}
 use Rattle.reconciler.proofs.plan_at.Tie as tie
 
-combine-requires : tie.Need-combine-requires
-combine-requires c κs = search needs
-
-least-values-requires : tie.Need-least-values-requires
-least-values-requires c κs = search needs
+fill-values-requires : tie.Need-fill-values-requires
+fill-values-requires c κs = search needs
 
 chooses-requires : tie.Need-chooses-requires
 chooses-requires c κs = search needs
@@ -60,8 +57,7 @@ pub plan-at-spec : {M : Type 1} → statement M
 plan-at-spec =
     tie.close
     (tie.spec
-    combine-requires
-    least-values-requires
+    fill-values-requires
     chooses-requires
     successor-count-requires
     choose-requires
