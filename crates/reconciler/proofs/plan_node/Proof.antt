@@ -10,7 +10,10 @@ find-requires : tie.Need-find-requires
 find-requires c κs = (search needs, (search needs, (search node-below, search needs)))
 
 plan-at-requires : tie.Need-plan-at-requires
-plan-at-requires c κs = (search needs, (found-is _ _ _ _ _ _ _ _ _ _ (c .before .before .before .before .before .before .before .before .before .pre .0) (c .before .before .before .before .before .before .before .before .before .pre .1 .0) (c .before .before .before .before .before .before .before .before .before .pre .1 .1 .0) (search needs) (c .before .before .find .ensures), search needs))
+plan-at-requires c κs =
+    let found = c .before .before in
+    let start = found .before .before .before .before .before .before .before in
+    (search needs, (found-is _ _ _ _ _ _ _ _ _ _ (start .pre .0) (start .pre .1 .0) (start .pre .1 .1 .0) (search needs) (found .find .ensures), search needs))
 
 same-length : tie.Need-same-length
 same-length c = search needs
