@@ -12,7 +12,6 @@ use lib.IntN.{ℤ, pos}
 use lib.Signed.{mag}
 use mir.Syntax.{w32}
 use mir.Val.{toZ, ofZ}
-use mir.ValLaws.{toZ-ofZ}
 use Rattle.fields.proofs.Bytes.{Bytes}
 use Rattle.numbers.specs.Bits.{ones}
 use Rattle.schema.specs.Schema.{Node, schemaOf, nodeAt, noVariable, isNumber}
@@ -30,6 +29,7 @@ use Rattle.model.proofs.Values.{combined-at}
 use Rattle.conditions.specs.Held.{lowerOf, upperOf, maskOf, recordOf}
 use Rattle.conditions.specs.Places.{ConditionIn}
 use Rattle.conditions.proofs.Held.{Upto, upto-none, upto-set, upto-same, upto-done}
+use Rattle.conditions.proofs.Narrowing.{kept}
 
 pub record Combining (g : List Node) (qs : List Policy) (n k at : ℕ) (lo hi : List ℤ) (ms : List ℕ) : Type 0 where
   pub upto : k ≤ length (nodeAt g n .variables)
@@ -111,28 +111,18 @@ module _ (g : List Node) (qs : List Policy) (n k at : ℕ) (lo hi : List ℤ) (m
       (let z : span (getD (nodeAt g n .variables) k noVariable) ≡ 4 = ap span (sym e ∙ i) in omega arith)
       (omega arith)
 
-  pub combining-range : {a b u v : ℤ} → x ≡ Number a b → range u v ≡ restrictAll qs n k (range a b) → Combining g qs n (k + 1) (at + 8) (set lo k u) (set hi k v) ms
+  -- as the code hands them on
+  pub combining-range : {a b u v : ℤ} → x ≡ Number a b → mag a < 2 ^ 31 → mag b < 2 ^ 31
+      → range u v ≡ restrictAll qs n k (range (toZ w32 (ofZ w32 a)) (toZ w32 (ofZ w32 b))) → mag u < 2 ^ 31 → mag v < 2 ^ 31
+      → Combining g qs n (k + 1) (at + 8) (set lo k (toZ w32 (ofZ w32 u))) (set hi k (toZ w32 (ofZ w32 v))) ms
   unfolding own span
-  combining-range {a} {b} {u} {v} i d =
-      let c = this d (sym (ap own i)) in
-      turned (upto-set lowerOf (combined g qs n) k lo (w .lower) u (omega (arith, m .most)) (sym (ap lowerOf c)))
-      (upto-set upperOf (combined g qs n) k hi (w .upper) v (omega (arith, m .most)) (sym (ap upperOf c)))
+  combining-range {a} {b} {u} {v} i fa fb d fu fv =
+      let c = this d (ap₂ range (kept a fa) (kept b fb) ∙ sym (ap own i)) in
+      turned (upto-set lowerOf (combined g qs n) k lo (w .lower) (toZ w32 (ofZ w32 u)) (omega (arith, m .most)) (kept u fu ∙ sym (ap lowerOf c)))
+      (upto-set upperOf (combined g qs n) k hi (w .upper) (toZ w32 (ofZ w32 v)) (omega (arith, m .most)) (kept v fv ∙ sym (ap upperOf c)))
       (upto-same maskOf (combined g qs n) k ms (w .masks) (sym (ap maskOf c)))
       (let z : span (getD (nodeAt g n .variables) k noVariable) ≡ 8 = ap span (sym e ∙ i) in omega arith)
       (omega arith)
-
--- bounds as the code hands them on
-pub combining-bounds : (s t : List ℕ) (qs : List Policy) (n k at : ℕ) (lo hi : List ℤ) (ms : List ℕ) {m : ℕ} {x : Variable} {a b u v : ℤ}
-    → Combining (schemaOf s) qs n k at lo hi ms → NodeIn s t n → Bytes s → AtMost 4 (length (nodeAt (schemaOf s) n .variables)) m → k < m
-    → x ≡ getD (nodeAt (schemaOf s) n .variables) k noVariable → x ≡ Number a b
-    → range u v ≡ restrictAll qs n k (range (toZ w32 (ofZ w32 a)) (toZ w32 (ofZ w32 b))) → mag u < 2 ^ 31 → mag v < 2 ^ 31
-    → Combining (schemaOf s) qs n (k + 1) (at + 8) (set lo k (toZ w32 (ofZ w32 u))) (set hi k (toZ w32 (ofZ w32 v))) ms
-combining-bounds s t qs n k at lo hi ms {m} {x} {a} {b} {u} {v} w h y c l e i d fu fv =
-    let f = subst SoundVariable (sym e ∙ i) (sound s t n k h y c l e) in
-    combining-range (schemaOf s) qs n k at lo hi ms w c l e i
-    (ap₂ range (toZ-ofZ w32 u (record { sfits = fu })) (toZ-ofZ w32 v (record { sfits = fv }))
-    ∙ d
-    ∙ ap (restrictAll qs n k) (ap₂ range (toZ-ofZ w32 a (f .0)) (toZ-ofZ w32 b (f .1))))
 
 combined-length : (qs : List Policy) (n k : ℕ) (vs : List Variable) → length (combinedFrom qs n k vs) ≡ length vs
 unfolding combinedFrom

@@ -3,3 +3,4 @@ pub mod Said
 pub mod Narrowing
 pub mod Finding
 pub mod Combining
+pub mod Numbers

@@ -12,7 +12,7 @@ use lib.Bits.{bitAnd}
 use lib.IntN.{ℤ}
 use lib.Signed.{mag}
 use mir.Syntax.{w32, w64}
-use mir.Val.{Fits, toZ, ofZ, SFits}
+use mir.Val.{Fits, toZ, ofZ}
 use mir.ValLaws.{toZ-ofZ}
 use Rattle.fields.specs.Reading.{be, signed}
 use Rattle.numbers.specs.Bits.{ones}
@@ -25,23 +25,18 @@ use Rattle.model.specs.Reconciling.{both, restrict, restrictAll}
 use Rattle.conditions.specs.Places.{Found, ConditionIn}
 use Rattle.conditions.proofs.Said.{said-nothing, range-said, range-inside, mask-said, mask-inside}
 
+-- a bound is what its bits say
+pub kept : (z : ℤ) → mag z < 2 ^ 31 → toZ w32 (ofZ w32 z) ≡ z
+kept z f = toZ-ofZ w32 z (record { sfits = f })
+
 -- where a policy speaks of the node, there is room for the condition
 module _ (schema p : List ℕ) (a b n k rows : ℕ) (places : List ℕ) (r : ℕ) {offset : ℕ} (f : Found schema p a b n rows places) (h : r < rows) (z : getD places r 0 ≡ 0 → ⊥) where
   module _ (i : ConditionIn (schemaOf schema) n k offset true) where
-    room : getD places r 0 + offset + 8 ≤ length p
-    room = range-inside (schemaOf schema) p (policyAt (forced a b (policiesOf (schemaOf schema) p)) r) n (getD places r 0) k offset (f .each r h) i z
-
-    pub range-first : getD places r 0 + offset + 4 ≤ length p
-    range-first = omega (arith, room)
-
-    pub range-second : getD places r 0 + offset + 4 + 4 ≤ length p
-    range-second = omega (arith, room)
+    pub range-room : getD places r 0 + offset + 8 ≤ length p
+    range-room = range-inside (schemaOf schema) p (policyAt (forced a b (policiesOf (schemaOf schema) p)) r) n (getD places r 0) k offset (f .each r h) i z
 
     pub range-fits : length p < 2 ^ 64 → Fits w64 (getD places r 0 + offset)
-    range-fits m = record { fits = omega (arith, room) }
-
-    pub range-fits-4 : length p < 2 ^ 64 → Fits w64 (getD places r 0 + offset + 4)
-    range-fits-4 m = record { fits = omega (arith, room) }
+    range-fits m = record { fits = omega (arith, range-room) }
 
   module _ (i : ConditionIn (schemaOf schema) n k offset false) where
     pub mask-room : getD places r 0 + offset + 4 ≤ length p
@@ -49,6 +44,16 @@ module _ (schema p : List ℕ) (a b n k rows : ℕ) (places : List ℕ) (r : ℕ
 
     pub mask-fits : length p < 2 ^ 64 → Fits w64 (getD places r 0 + offset)
     mask-fits m = record { fits = omega (arith, mask-room) }
+
+-- a range as the code narrows it
+pub narrowed : (p : List ℕ) (at : ℕ) (a b : ℤ) {x y u v : ℤ} → x ≡ signed (be 4 p at) → mag x < 2 ^ 31 → y ≡ signed (be 4 p (at + 4)) → mag y < 2 ^ 31 → mag a < 2 ^ 31 → mag b < 2 ^ 31
+    → u ≡ maxZ (toZ w32 (ofZ w32 a)) (toZ w32 (ofZ w32 x)) → mag u < 2 ^ 31 → v ≡ minZ (toZ w32 (ofZ w32 b)) (toZ w32 (ofZ w32 y)) → mag v < 2 ^ 31
+    → range (toZ w32 (ofZ w32 u)) (toZ w32 (ofZ w32 v)) ≡ both (range a b) (range (signed (be 4 p at)) (signed (be 4 p (at + 4))))
+unfolding both
+narrowed p at a b {x} {y} {u} {v} ex fx ey fy fa fb eu fu ev fv =
+    ap₂ range
+    (kept u fu ∙ eu ∙ ap₂ maxZ (kept a fa) (kept x fx ∙ ex))
+    (kept v fv ∙ ev ∙ ap₂ minZ (kept b fb) (kept y fy ∙ ey))
 
 -- what the policies from row r on leave of c is what all leave of start
 pub record Narrowing (qs : List Policy) (n k : ℕ) (start : Condition) (r : ℕ) (c : Condition) : Type 0 where
@@ -88,18 +93,11 @@ module _ (schema p : List ℕ) (a b n k rows : ℕ) (places : List ℕ) (start :
 
   -- one that does: a number's bounds
   module _ {offset : ℕ} (i : ConditionIn (schemaOf schema) n k offset true) (h : r < rows) (z : getD places r 0 ≡ 0 → ⊥) where
-    -- as the code hands them on
-    pub narrowing-range : (lo hi : ℕ) {x y u v : ℤ} → Narrowing qs n k start r (range (toZ w32 lo) (toZ w32 hi))
-        → x ≡ signed (be 4 p (getD places r 0 + offset)) → mag x < 2 ^ 31 → y ≡ signed (be 4 p (getD places r 0 + offset + 4)) → mag y < 2 ^ 31
-        → u ≡ maxZ (toZ w32 lo) (toZ w32 (ofZ w32 x)) → mag u < 2 ^ 31 → v ≡ minZ (toZ w32 hi) (toZ w32 (ofZ w32 y)) → mag v < 2 ^ 31
-        → Narrowing qs n k start (r + 1) (range (toZ w32 (ofZ w32 u)) (toZ w32 (ofZ w32 v)))
-    unfolding restrict both
-    narrowing-range lo hi {x} {y} {u} {v} w ex fx ey fy eu fu ev fv =
-        turn w h
-        (ap₂ range
-        (toZ-ofZ w32 u (record { sfits = fu }) ∙ eu ∙ ap (maxZ (toZ w32 lo)) (toZ-ofZ w32 x (record { sfits = fx }) ∙ ex))
-        (toZ-ofZ w32 v (record { sfits = fv }) ∙ ev ∙ ap (minZ (toZ w32 hi)) (toZ-ofZ w32 y (record { sfits = fy }) ∙ ey))
-        ∙ ap (restrict (range (toZ w32 lo) (toZ w32 hi))) (sym (range-said (schemaOf schema) p (policyAt qs r) n (getD places r 0) k offset (f .each r h) i z)))
+    pub narrowing-range : {c d : Condition} → Narrowing qs n k start r c
+        → d ≡ both c (range (signed (be 4 p (getD places r 0 + offset))) (signed (be 4 p (getD places r 0 + offset + 4)))) → Narrowing qs n k start (r + 1) d
+    unfolding restrict
+    narrowing-range {c} w e =
+        turn w h (e ∙ ap (restrict c) (sym (range-said (schemaOf schema) p (policyAt qs r) n (getD places r 0) k offset (f .each r h) i z)))
 
   -- a mask
   module _ {offset : ℕ} (i : ConditionIn (schemaOf schema) n k offset false) (h : r < rows) (z : getD places r 0 ≡ 0 → ⊥) where
@@ -110,11 +108,3 @@ module _ (schema p : List ℕ) (a b n k rows : ℕ) (places : List ℕ) (start :
         turn w h
         (ap (λ (y : ℕ). mask (bitAnd m y)) d
         ∙ ap (restrict (mask m)) (sym (mask-said (schemaOf schema) p (policyAt qs r) n (getD places r 0) k offset (f .each r h) i z)))
-
-pub narrowing-bounds : (schema p : List ℕ) (a b n k rows : ℕ) (places : List ℕ) (r lo hi : ℕ) {least most : ℤ} → Found schema p a b n rows places
-    → SFits w32 least → SFits w32 most
-    → Narrowing (forced a b (policiesOf (schemaOf schema) p)) n k (range (toZ w32 (ofZ w32 least)) (toZ w32 (ofZ w32 most))) r (range (toZ w32 lo) (toZ w32 hi)) → rows ≤ r
-    → range (toZ w32 lo) (toZ w32 hi) ≡ restrictAll (forced a b (policiesOf (schemaOf schema) p)) n k (range least most)
-narrowing-bounds schema p a b n k rows places r lo hi {least = least} {most} f fl fm w h =
-    narrowing-done schema p a b n k rows places (range (toZ w32 (ofZ w32 least)) (toZ w32 (ofZ w32 most))) r f w h
-    ∙ ap (restrictAll (forced a b (policiesOf (schemaOf schema) p)) n k) (ap₂ range (toZ-ofZ w32 least fl) (toZ-ofZ w32 most fm))

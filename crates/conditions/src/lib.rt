@@ -1,17 +1,18 @@
 // The conditions of schema and policies in force on a node's variables, combined.
 ghost use mathlib.Core.Path.{_≡_};
 ghost use mathlib.Core.Bool.{true, false};
-ghost use Prim.Native.Nat.{_<_, _≤_};
+ghost use Prim.Native.Nat.{_+_, _<_, _≤_};
 ghost use lib.ListN.{length};
+ghost use Rattle.fields.specs.Reading.{be, signed};
 ghost use Rattle.numbers.specs.Bits.{ones};
-ghost use Rattle.schema.specs.Schema.{schemaOf};
+ghost use Rattle.schema.specs.Schema.{schemaOf, nodeAt, variableAt};
 ghost use Rattle.schema.specs.Table.{NodeIn};
 ghost use Rattle.policies.specs.Policies.{range, mask, policiesOf};
 ghost use Rattle.policies.specs.Pass.{forced, InForce};
 ghost use Rattle.policies.specs.Index.{IndexIn};
-ghost use Rattle.model.specs.Reconciling.{restrictAll, combined};
+ghost use Rattle.model.specs.Reconciling.{own, both, restrictAll, combined};
 ghost use Rattle.conditions.specs.Held.{recordOf};
-ghost use Rattle.conditions.specs.Places.{found, Found, ConditionIn};
+ghost use Rattle.conditions.specs.Places.{found, Found, ConditionIn, fourNumbers};
 use schema::Variable;
 
 // The combined conditions of one node: a range for a number, a mask for a listed variable, a place for each of four.
@@ -52,7 +53,18 @@ pub fn find(
     }
 }
 
-// The bounds of node n's variable k, a number, narrowed by each policy in force.
+// The range x, narrowed by the condition that stands at a place of the file.
+fn narrow_at(p: &[u8], at: usize, x: Range) -> Range
+    requires { ⌜ at + 8 ≤ length (now p) ⌝ }
+    ensures { λ r. ⌜ range (r .lo) (r .hi) ≡ both (range (x .lo) (x .hi)) (range (signed (be 4 (now (p .entry)) at)) (signed (be 4 (now (p .entry)) (at + 4)))) ⌝ }
+{
+    Range {
+        lo: numbers::greater(x.lo, fields::i32_at(p, at)),
+        hi: numbers::lesser(x.hi, fields::i32_at(p, at + 4)),
+    }
+}
+
+// The range of node n's variable k, a number, narrowed by each policy in force.
 fn narrow_range(
     schema: &[u8],
     p: &[u8],
@@ -63,27 +75,24 @@ fn narrow_range(
     n: usize,
     k: usize,
     offset: usize,
-    least: i32,
-    most: i32,
+    start: Range,
 ) -> Range
     requires { ⌜ Found (now schema) (now p) a b n rows (now places) ⌝ }
     requires { ⌜ ConditionIn (schemaOf (now schema)) n k offset true ⌝ }
-    ensures { λ r. ⌜ range (r .lo) (r .hi) ≡ restrictAll (forced a b (policiesOf (schemaOf (now (schema .entry))) (now (p .entry)))) n k (range least most) ⌝ }
+    ensures { λ r. ⌜ range (r .lo) (r .hi) ≡ restrictAll (forced a b (policiesOf (schemaOf (now (schema .entry))) (now (p .entry)))) n k (range (start .lo) (start .hi)) ⌝ }
 {
-    let mut lo = least;
-    let mut hi = most;
+    let mut x = start;
     let mut r: usize = 0;
     while r < rows {
         let at = places[r];
         if at == 0 {
             r += 1;
         } else {
-            lo = numbers::greater(lo, fields::i32_at(p, at + offset));
-            hi = numbers::lesser(hi, fields::i32_at(p, at + offset + 4));
+            x = narrow_at(p, at + offset, x);
             r += 1;
         }
     }
-    Range { lo, hi }
+    x
 }
 
 // The mask of node n's variable k, a listed one of so many values, narrowed by each policy in force.
@@ -118,8 +127,81 @@ fn narrow_mask(
     m
 }
 
-// The combined conditions of node n: the schema's, narrowed by each policy in force.
-pub fn combine(
+// Whether node n has four variables, all numbers.
+fn has_four_numbers(schema: &[u8], table: &[usize], n: usize) -> bool
+    requires { ⌜ NodeIn (now schema) (now table) n ⌝ }
+    ensures { λ r. ⌜ r ≡ fourNumbers (nodeAt (schemaOf (now (schema .entry))) n .variables) ⌝ }
+{
+    if nodes::variable_count(schema, table, n) != 4 {
+        return false;
+    }
+    let mut k: usize = 0;
+    while k < 4 {
+        if nodes::is_number(schema, table, n, k) {
+            k += 1;
+        } else {
+            return false;
+        }
+    }
+    true
+}
+
+// The schema's range of node n's variable k, one of four numbers.
+fn range_of(schema: &[u8], table: &[usize], n: usize, k: usize) -> Range
+    requires { ⌜ NodeIn (now schema) (now table) n ⌝ }
+    requires { ⌜ fourNumbers (nodeAt (schemaOf (now schema)) n .variables) ≡ true ⌝ }
+    requires { ⌜ k < 4 ⌝ }
+    ensures { λ r. ⌜ range (r .lo) (r .hi) ≡ own (variableAt (schemaOf (now (schema .entry))) n k) ⌝ }
+{
+    match nodes::variable_of(schema, table, n, k) {
+        Variable::Number { lo, hi } => Range { lo, hi },
+        Variable::Listed { size: _ } => Range { lo: 0, hi: 0 },
+    }
+}
+
+// The combined conditions of node n, which has four numbers: each policy in force narrows all four in turn.
+fn combine_numbers(
+    schema: &[u8],
+    table: &[usize],
+    p: &[u8],
+    places: &[usize; 16],
+    rows: usize,
+    a: u16,
+    b: u16,
+    n: usize,
+) -> Conditions
+    requires { ⌜ NodeIn (now schema) (now table) n ⌝ }
+    requires { ⌜ Found (now schema) (now p) a b n rows (now places) ⌝ }
+    requires { ⌜ fourNumbers (nodeAt (schemaOf (now schema)) n .variables) ≡ true ⌝ }
+    ensures { λ r. ⌜ r ≡ recordOf (combined (schemaOf (now (schema .entry))) (forced a b (policiesOf (schemaOf (now (schema .entry))) (now (p .entry)))) n) ⌝ }
+{
+    let offset = policies::rank_count(schema, table, n);
+    let mut w = range_of(schema, table, n, 0);
+    let mut x = range_of(schema, table, n, 1);
+    let mut y = range_of(schema, table, n, 2);
+    let mut z = range_of(schema, table, n, 3);
+    let mut r: usize = 0;
+    while r < rows {
+        let at = places[r];
+        if at == 0 {
+            r += 1;
+        } else {
+            let from = at + offset;
+            w = narrow_at(p, from, w);
+            x = narrow_at(p, from + 8, x);
+            y = narrow_at(p, from + 16, y);
+            z = narrow_at(p, from + 24, z);
+            r += 1;
+        }
+    }
+    let lo = [w.lo, x.lo, y.lo, z.lo];
+    let hi = [w.hi, x.hi, y.hi, z.hi];
+    let mask = [0u32; 4];
+    Conditions { lo, hi, mask }
+}
+
+// The combined conditions of node n, variable by variable.
+fn combine_each(
     schema: &[u8],
     table: &[usize],
     p: &[u8],
@@ -142,7 +224,8 @@ pub fn combine(
     while k < v {
         match nodes::variable_of(schema, table, n, k) {
             Variable::Number { lo: l, hi: h } => {
-                let x = narrow_range(schema, p, places, rows, a, b, n, k, at, l, h);
+                let start = Range { lo: l, hi: h };
+                let x = narrow_range(schema, p, places, rows, a, b, n, k, at, start);
                 let Range { lo: l, hi: h } = x;
                 lo[k] = l;
                 hi[k] = h;
@@ -157,4 +240,25 @@ pub fn combine(
         }
     }
     Conditions { lo, hi, mask }
+}
+
+// The combined conditions of node n: the schema's, narrowed by each policy in force.
+pub fn combine(
+    schema: &[u8],
+    table: &[usize],
+    p: &[u8],
+    places: &[usize; 16],
+    rows: usize,
+    a: u16,
+    b: u16,
+    n: usize,
+) -> Conditions
+    requires { ⌜ NodeIn (now schema) (now table) n ⌝ }
+    requires { ⌜ Found (now schema) (now p) a b n rows (now places) ⌝ }
+    ensures { λ r. ⌜ r ≡ recordOf (combined (schemaOf (now (schema .entry))) (forced a b (policiesOf (schemaOf (now (schema .entry))) (now (p .entry)))) n) ⌝ }
+{
+    if has_four_numbers(schema, table, n) {
+        return combine_numbers(schema, table, p, places, rows, a, b, n);
+    }
+    combine_each(schema, table, p, places, rows, a, b, n)
 }

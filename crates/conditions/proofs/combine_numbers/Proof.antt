@@ -1,0 +1,116 @@
+-- The policies from here on are left for each of the four.
+-- Rests on the laws of a turn, in Numbers.
+use Prim.Native.Nat.{_-_}
+use Rattle.policies.specs.Policies.{range}
+use Rattle.conditions.proofs.Numbers.{Four, four-none, four-same, first-room, next-room, first-fits, next-fits, four-range, four-done}
+use borrow.Author.Needs.{needs}
+use Rattle.conditions.proofs.combine_numbers.Statement.{statement}
+use Rattle.conditions.proofs.combine_numbers.Tie as tie
+
+abbrev Inv-loop : tie.InvT-loop
+Inv-loop schema table p places rows a b n offset w₀ x₀ y₀ z₀ r₀ w x y z r = Four schema p a b n rows places offset r (range (w .lo) (w .hi)) (range (x .lo) (x .hi)) (range (y .lo) (y .hi)) (range (z .lo) (z .hi))
+
+abbrev μ-loop : tie.MeasureT-loop
+μ-loop schema table p places rows a b n offset w₀ x₀ y₀ z₀ r₀ w x y z r = rows - r
+
+rank-count-requires : tie.Need-rank-count-requires Inv-loop μ-loop
+rank-count-requires c κs = search needs
+
+range-of-requires : tie.Need-range-of-requires Inv-loop μ-loop
+range-of-requires c κs = search needs
+
+range-of-requires-2 : tie.Need-range-of-requires-2 Inv-loop μ-loop
+range-of-requires-2 c κs = search needs
+
+range-of-requires-3 : tie.Need-range-of-requires-3 Inv-loop μ-loop
+range-of-requires-3 c κs = search needs
+
+range-of-requires-4 : tie.Need-range-of-requires-4 Inv-loop μ-loop
+range-of-requires-4 c κs = search needs
+
+-- the last fact handed over: the length of the policies' file fits
+loop-holds : tie.Need-loop-holds Inv-loop μ-loop
+loop-holds c =
+    let start = c .before .before .before .before .before .before .before .before in
+    search (four-none, start .pre, start .good .1 .1 .0)
+
+mul-at : tie.Need-mul-at Inv-loop μ-loop
+mul-at c = search needs
+
+element-copy-out-at : tie.Need-element-copy-out-at Inv-loop μ-loop
+element-copy-out-at c = search needs
+
+add-r : tie.Need-add-r Inv-loop μ-loop
+add-r c = search needs
+
+loop-less : tie.Need-loop-less Inv-loop μ-loop
+loop-less c = search needs
+
+loop-again : tie.Need-loop-again Inv-loop μ-loop
+loop-again c = search four-same
+
+add-from : tie.Need-add-from Inv-loop μ-loop
+add-from c = search first-fits
+
+narrow-at-requires : tie.Need-narrow-at-requires Inv-loop μ-loop
+narrow-at-requires c κs = search first-room
+
+add-narrow-at : tie.Need-add-narrow-at Inv-loop μ-loop
+add-narrow-at c = search (next-fits, needs)
+
+narrow-at-requires-2 : tie.Need-narrow-at-requires-2 Inv-loop μ-loop
+narrow-at-requires-2 c κs = search (next-room, needs)
+
+add-narrow-at-2 : tie.Need-add-narrow-at-2 Inv-loop μ-loop
+add-narrow-at-2 c = search (next-fits, needs)
+
+narrow-at-requires-3 : tie.Need-narrow-at-requires-3 Inv-loop μ-loop
+narrow-at-requires-3 c κs = search (next-room, needs)
+
+add-narrow-at-3 : tie.Need-add-narrow-at-3 Inv-loop μ-loop
+add-narrow-at-3 c = search (next-fits, needs)
+
+narrow-at-requires-4 : tie.Need-narrow-at-requires-4 Inv-loop μ-loop
+narrow-at-requires-4 c κs = search (next-room, needs)
+
+add-r-2 : tie.Need-add-r-2 Inv-loop μ-loop
+add-r-2 c = search needs
+
+loop-less-2 : tie.Need-loop-less-2 Inv-loop μ-loop
+loop-less-2 c = search needs
+
+loop-again-2 : tie.Need-loop-again-2 Inv-loop μ-loop
+loop-again-2 c = search four-range
+
+returns : tie.Need-returns Inv-loop μ-loop
+returns c = search four-done
+
+pub combine-numbers-spec : {M : Type 1} → statement M
+combine-numbers-spec =
+    tie.close
+    (tie.spec
+    Inv-loop
+    μ-loop
+    rank-count-requires
+    range-of-requires
+    range-of-requires-2
+    range-of-requires-3
+    range-of-requires-4
+    loop-holds
+    mul-at
+    element-copy-out-at
+    add-r
+    loop-less
+    loop-again
+    add-from
+    narrow-at-requires
+    add-narrow-at
+    narrow-at-requires-2
+    add-narrow-at-2
+    narrow-at-requires-3
+    add-narrow-at-3
+    narrow-at-requires-4
+    add-r-2
+    loop-less-2
+    loop-again-2
+    returns)
