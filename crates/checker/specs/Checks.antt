@@ -1,4 +1,5 @@
 -- What the checker's functions tell of an accepted instance file.
+-- For the contracts of functions that no other crate calls.
 use Prim.Native.Nat.{ℕ, _+_, _<_, _≤_}
 use mathlib.Core.Path.{_≡_}
 use mathlib.Core.Bool.{Bool, true, false, cond, not, _&&_}

@@ -1,4 +1,5 @@
 -- What the parts of the comparison start from.
+-- For the contracts of functions that no other crate calls.
 use Prim.Native.Nat.{ℕ}
 use mathlib.Core.List.{List}
 use Rattle.policies.specs.Index.{IndexIn}

@@ -1,4 +1,5 @@
 -- What the passes over the nodes leave in their tables.
+-- For the contracts of functions that no other crate calls.
 use Prim.Native.Nat.{ℕ, _+_, _*_, _<_, _≤_}
 use mathlib.Core.Path.{_≡_}
 use mathlib.Core.Logic.{_⊎_}

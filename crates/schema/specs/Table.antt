@@ -40,27 +40,6 @@ fillNodes n p (x ∷ xs) t = fillNodes (n + 1) (p + nodeWidth x) xs (fillVariabl
 unfoldable pub tableOf : ℕ → List Node → List ℕ
 tableOf m g = fillNodes 0 3 g (replicate m 0)
 
--- the bytes of the variable at a place, by its type
-abbrev pub widthAt : List ℕ → ℕ → ℕ
-widthAt s p = cond (eqb (getD s p 0) 0) 9 2
-
-abbrev pub variablesIn : Got (List Variable) → List Variable
-variablesIn (got vs p) = vs
-variablesIn (bad n o) = []
-
--- v variables of node n are read from p on, and the table has places for them
-pub record Filling (s : List ℕ) (n v p : ℕ) (t : List ℕ) : Type 0 where
-  pub small : n < 64
-  pub few : v ≤ 4
-  pub long : 5 * n + 1 + v ≤ length t
-  pub end : ℕ
-  pub read : variables s v p ≡ got (variablesIn (variables s v p)) end
-
--- the table with their places, and the place r after them
-pub record Filled (s : List ℕ) (n v p : ℕ) (t after : List ℕ) (r : ℕ) : Type 0 where
-  pub table : after ≡ fillVariables n 0 p (variablesIn (variables s v p)) t
-  pub end : r ≡ p + variablesWidth (variablesIn (variables s v p))
-
 -- the file is accepted
 pub record Accepted (s : List ℕ) : Type 0 where
   pub some : 0 < length (schemaOf s)
@@ -90,3 +69,26 @@ pub record SuccessorIs (g : List Node) (n j r : ℕ) : Type 0 where
   pub is : r ≡ getD (nodeAt g n .successors) j 0
   pub above : n < r
   pub below : r < length g
+
+-- ---- for the contracts of functions that only their own crate calls
+
+-- the bytes of the variable at a place, by its type
+abbrev pub widthAt : List ℕ → ℕ → ℕ
+widthAt s p = cond (eqb (getD s p 0) 0) 9 2
+
+abbrev pub variablesIn : Got (List Variable) → List Variable
+variablesIn (got vs p) = vs
+variablesIn (bad n o) = []
+
+-- v variables of node n are read from p on, and the table has places for them
+pub record Filling (s : List ℕ) (n v p : ℕ) (t : List ℕ) : Type 0 where
+  pub small : n < 64
+  pub few : v ≤ 4
+  pub long : 5 * n + 1 + v ≤ length t
+  pub end : ℕ
+  pub read : variables s v p ≡ got (variablesIn (variables s v p)) end
+
+-- the table with their places, and the place r after them
+pub record Filled (s : List ℕ) (n v p : ℕ) (t after : List ℕ) (r : ℕ) : Type 0 where
+  pub table : after ≡ fillVariables n 0 p (variablesIn (variables s v p)) t
+  pub end : r ≡ p + variablesWidth (variablesIn (variables s v p))
