@@ -12,7 +12,7 @@ use lib.Bits.{bitAnd}
 use lib.IntN.{ℤ}
 use lib.Signed.{mag}
 use mir.Syntax.{w32, w64}
-use mir.Val.{Fits, toZ, ofZ}
+use mir.Val.{Fits, toZ, ofZ, SFits}
 use mir.ValLaws.{toZ-ofZ}
 use Rattle.fields.specs.Reading.{be, signed}
 use Rattle.numbers.specs.Bits.{ones}
@@ -108,3 +108,11 @@ module _ (schema p : List ℕ) (a b n k rows : ℕ) (places : List ℕ) (start :
         turn w h
         (ap (λ (y : ℕ). mask (bitAnd m y)) d
         ∙ ap (restrict (mask m)) (sym (mask-said (schemaOf schema) p (policyAt qs r) n (getD places r 0) k offset (f .each r h) i z)))
+
+-- the range that the code begins with
+pub narrowing-bounds : (schema p : List ℕ) (a b n k rows : ℕ) (places : List ℕ) (r : ℕ) {least most : ℤ} {c : Condition} → Found schema p a b n rows places → SFits w32 least → SFits w32 most
+    → Narrowing (forced a b (policiesOf (schemaOf schema) p)) n k (range (toZ w32 (ofZ w32 least)) (toZ w32 (ofZ w32 most))) r c → rows ≤ r
+    → c ≡ restrictAll (forced a b (policiesOf (schemaOf schema) p)) n k (range least most)
+narrowing-bounds schema p a b n k rows places r {least} {most} f fl fm w h =
+    narrowing-done schema p a b n k rows places (range (toZ w32 (ofZ w32 least)) (toZ w32 (ofZ w32 most))) r f w h
+    ∙ ap (restrictAll (forced a b (policiesOf (schemaOf schema) p)) n k) (ap₂ range (toZ-ofZ w32 least fl) (toZ-ofZ w32 most fm))

@@ -75,13 +75,17 @@ fn narrow_range(
     n: usize,
     k: usize,
     offset: usize,
-    start: Range,
+    least: i32,
+    most: i32,
 ) -> Range
     requires { ⌜ Found (now schema) (now p) a b n rows (now places) ⌝ }
     requires { ⌜ ConditionIn (schemaOf (now schema)) n k offset true ⌝ }
-    ensures { λ r. ⌜ range (r .lo) (r .hi) ≡ restrictAll (forced a b (policiesOf (schemaOf (now (schema .entry))) (now (p .entry)))) n k (range (start .lo) (start .hi)) ⌝ }
+    ensures { λ r. ⌜ range (r .lo) (r .hi) ≡ restrictAll (forced a b (policiesOf (schemaOf (now (schema .entry))) (now (p .entry)))) n k (range least most) ⌝ }
 {
-    let mut x = start;
+    let mut x = Range {
+        lo: least,
+        hi: most,
+    };
     let mut r: usize = 0;
     while r < rows {
         let at = places[r];
@@ -224,8 +228,7 @@ fn combine_each(
     while k < v {
         match nodes::variable_of(schema, table, n, k) {
             Variable::Number { lo: l, hi: h } => {
-                let start = Range { lo: l, hi: h };
-                let x = narrow_range(schema, p, places, rows, a, b, n, k, at, start);
+                let x = narrow_range(schema, p, places, rows, a, b, n, k, at, l, h);
                 let Range { lo: l, hi: h } = x;
                 lo[k] = l;
                 hi[k] = h;

@@ -4,16 +4,16 @@ use Prim.Native.Nat.{_-_}
 use Rattle.schema.specs.Schema.{schemaOf}
 use Rattle.policies.specs.Policies.{range, policiesOf}
 use Rattle.policies.specs.Pass.{forced}
-use Rattle.conditions.proofs.Narrowing.{Narrowing, narrowing-none, narrowing-same, range-room, range-fits, narrowing-range, narrowing-done}
+use Rattle.conditions.proofs.Narrowing.{Narrowing, narrowing-none, narrowing-same, range-room, range-fits, narrowing-range, narrowing-bounds}
 use borrow.Author.Needs.{needs}
 use Rattle.conditions.proofs.narrow_range.Statement.{statement}
 use Rattle.conditions.proofs.narrow_range.Tie as tie
 
 abbrev Inv-loop : tie.InvT-loop
-Inv-loop schema p places rows a b n k offset x₀ r₀ x r = Narrowing (forced a b (policiesOf (schemaOf schema) p)) n k (range (x₀ .lo) (x₀ .hi)) r (range (x .lo) (x .hi))
+Inv-loop schema p places rows a b n k offset least most x₀ r₀ x r = Narrowing (forced a b (policiesOf (schemaOf schema) p)) n k (range (x₀ .lo) (x₀ .hi)) r (range (x .lo) (x .hi))
 
 abbrev μ-loop : tie.MeasureT-loop
-μ-loop schema p places rows a b n k offset x₀ r₀ x r = rows - r
+μ-loop schema p places rows a b n k offset least most x₀ r₀ x r = rows - r
 
 loop-holds : tie.Need-loop-holds Inv-loop μ-loop
 loop-holds c = search narrowing-none
@@ -49,7 +49,7 @@ loop-again-2 : tie.Need-loop-again-2 Inv-loop μ-loop
 loop-again-2 c = search narrowing-range
 
 returns : tie.Need-returns Inv-loop μ-loop
-returns c = search narrowing-done
+returns c = search narrowing-bounds
 
 pub narrow-range-spec : {M : Type 1} → statement M
 narrow-range-spec =
