@@ -89,7 +89,7 @@ module _ (s : List ℕ) where
       part-within (ranks s (rankCount x) p) _ (ranks-within (rankCount x) p h)
       (λ a q r. part-within (conditions s (x .variables) q) _ (conditions-within (x .variables) q r) (λ b u y. ends _ u y))
 
-  pn-within : (g : List Node) (low p : ℕ) → p ≤ length s → Within (length s) (rule g s low p)
+  pub pn-within : (g : List Node) (low p : ℕ) → p ≤ length s → Within (length s) (rule g s low p)
   unfolding rule
   pn-within g low p h =
       part-within (mark PN s p) _ (mark-within PN p h)

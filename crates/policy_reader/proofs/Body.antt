@@ -20,7 +20,6 @@ use Rattle.fields.proofs.Reading.{whole-got}
 use Rattle.fields.proofs.Tests.{and-true, and-no, never}
 use Rattle.numbers.specs.Bits.{ones}
 use Rattle.schema.specs.Schema.{Node, schemaOf, nodeAt, noVariable, isNumber}
-use Rattle.schema.specs.Table.{NodeIn}
 use Rattle.schema.specs.declared.Variable.{Variable}
 use Rattle.schema.specs.declared.Variable.the-variants.{Number, Listed}
 use Rattle.schema.proofs.Accepted.{file-of, view}
@@ -164,22 +163,22 @@ span-room (v ∷ vs) (suc k) l = omega (arith, span-room vs k (omega arith))
 pub variables-few : (s : List ℕ) (n : ℕ) → n < length (schemaOf s) → length (nodeAt (schemaOf s) n .variables) ≤ 4
 variables-few s n h = view s (file-of s (omega arith)) n h .few-variables
 
-module _ (schema : List ℕ) {table : List ℕ} (t : List ℕ) (n : ℕ) (w : Laid (schemaOf schema) (length (schemaOf schema)) t) (b : NodeIn schema table n) where
+module _ (schema : List ℕ) (t : List ℕ) (n : ℕ) (w : Laid (schemaOf schema) (length (schemaOf schema)) t) (b : n < length (schemaOf schema)) where
   abbrev node : Node
   node = nodeAt (schemaOf schema) n
 
   few : 0 + length (node .variables) ≤ 4
-  few = omega (arith, variables-few schema n (b .below))
+  few = omega (arith, variables-few schema n b)
 
   half-is : getD t (16 * n) 0 / 8 ≡ bodyWidth node
   unfolding bodyWidth offsetOf shapeOf
-  half-is = ap (λ (i : ℕ). i / 8) (w .each n (b .below) .shape) ∙ shape-half (node .variables) (rankCount node) 0 0 (omega arith) few
+  half-is = ap (λ (i : ℕ). i / 8) (w .each n b .shape) ∙ shape-half (node .variables) (rankCount node) 0 0 (omega arith) few
 
   looks-few : getD t (16 * n) 0 % 8 ≤ length (node .variables)
   unfolding shapeOf
   looks-few =
       let r = shape-looks (node .variables) (rankCount node) 0 0 (omega arith) few .most in
-      omega (arith, ap (λ (i : ℕ). i % 8) (w .each n (b .below) .shape))
+      omega (arith, ap (λ (i : ℕ). i % 8) (w .each n b .shape))
 
   module _ (s : List ℕ) (p : ℕ) {shape : ℕ} (q : shape ≡ getD t (16 * n) 0) (h : p ≤ length s) (l : shape / 8 ≤ length s - p) where
     half : shape / 8 ≡ bodyWidth node
@@ -192,11 +191,11 @@ module _ (schema : List ℕ) {table : List ℕ} (t : List ℕ) (n : ℕ) (w : La
     unfolding bodyWidth offsetOf
     body-looking =
         record {
-          node = omega (arith, b .below, nodes-few schema);
-          long = omega (arith, b .below, w .long);
+          node = omega (arith, b, nodes-few schema);
+          long = omega (arith, b, w .long);
           few = omega (arith, looks, few);
           there = λ i k.
-              let o = w .each n (b .below) .at i (omega (arith, looks)) in
+              let o = w .each n b .at i (omega (arith, looks)) in
               omega (arith, half, span-room (node .variables) i (omega (arith, looks)));
         }
 
@@ -209,12 +208,12 @@ module _ (schema : List ℕ) {table : List ℕ} (t : List ℕ) (n : ℕ) (w : La
         fits : (k : ℕ) → k < length (node .variables) → Dec (k < shape % 8) → Fit s (p + offsetOf node k) (getD (node .variables) k noVariable)
         fits k m (yes y) =
             let o = over-at t s n p (shape % 8) (sym e ∙ z) k y in
-            let d = w .each n (b .below) in
+            let d = w .each n b in
             fit-most s (p + offsetOf node k) (getD (node .variables) k noVariable) (rw (d .at k m, d .most k m) at o)
         fits k m (no y) =
             fit-number s (p + offsetOf node k) (getD (node .variables) k noVariable)
             (shape-numbers (node .variables) (rankCount node) 0 0 (omega arith) few k m
-            (let d = ap (λ (i : ℕ). i % 8) (q ∙ w .each n (b .below) .shape) in omega arith))
+            (let d = ap (λ (i : ℕ). i % 8) (q ∙ w .each n b .shape) in omega arith))
 
 -- ---- the loop over the conditions looked at, from the last: what is left equals the whole
 

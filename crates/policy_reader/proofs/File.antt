@@ -64,6 +64,13 @@ module _ (g : List Node) (s : List ℕ) (h j : ℕ) (t : List ℕ) {f : HeadRead
 
 pub ruleset of-policy = (policy-headless, policy-rules)
 
+-- its PN begin inside
+pub rules-inside : (s : List ℕ) (h : ℕ) {f : HeadRead} {a l n q : ℕ} → head (drop h s) ≡ headIn f → f ≡ Found a l n q → q ≤ length (take (length s - h) (drop h s))
+rules-inside s h {a = a} {l} {n} {q} e k =
+    let z : head (drop h s) ≡ got (record { first = a; last = l; count = n }) q = e ∙ ap headIn k in
+    let i = head-back (drop h s) z in
+    rw (rest s h) (omega (arith, i .inside, i .next))
+
 -- its head's place in the index
 pub head-room : (schema t : List ℕ) (j : ℕ) → Long schema t → j < 16 → j < length t
 head-room schema t j w h = omega (arith, w .long)

@@ -226,14 +226,14 @@ pub lay-same : (schema : List ℕ) (n : ℕ) (t₀ : List ℕ) (k w f : ℕ) (t 
 lay-same schema n t₀ k w f t v i = length-set t (16 * n) v ∙ i .same
 
 -- zeros, enough of them for the nodes
-laid-none : (g : List Node) (m : ℕ) → 1 + 16 * length g ≤ m → Laid g 0 (replicate m 0)
+laid-none : (g : List Node) (m : ℕ) → 16 * length g ≤ m → Laid g 0 (replicate m 0)
 laid-none g m h = record { long = omega (arith, length-replicate {A = ℕ} m 0); each = λ m h. absurd (omega arith) }
 
-pub laid-16 : (schema : List ℕ) {table : List ℕ} {count : ℕ} → SchemaIn schema table count → count ≤ 16 → Laid (schemaOf schema) 0 (replicate 257 0)
-laid-16 schema s h = laid-none (schemaOf schema) 257 (omega (arith, s .counted))
+pub laid-16 : (schema : List ℕ) {table : List ℕ} {count : ℕ} → SchemaIn schema table count → count ≤ 16 → Laid (schemaOf schema) 0 (replicate 256 0)
+laid-16 schema s h = laid-none (schemaOf schema) 256 (omega (arith, s .counted))
 
-pub laid-64 : (schema : List ℕ) → Laid (schemaOf schema) 0 (replicate 1025 0)
-laid-64 schema = laid-none (schemaOf schema) 1025 (omega (arith, nodes-few schema))
+pub laid-64 : (schema : List ℕ) → Laid (schemaOf schema) 0 (replicate 1024 0)
+laid-64 schema = laid-none (schemaOf schema) 1024 (omega (arith, nodes-few schema))
 
 -- the nodes below n are laid; the layout is as long as it was
 pub record LayingAll (g : List Node) (t₀ : List ℕ) (n : ℕ) (t : List ℕ) : Type 0 where

@@ -1,4 +1,3 @@
-mod Reader
 mod Body
 mod Laying
 mod Rules

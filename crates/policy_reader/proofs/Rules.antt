@@ -1,34 +1,38 @@
 -- A PN as the code reads it, and the loop over those of a policy: what is left to read and to fill from here equals the whole.
 -- Rests on the definitions of `rule`, `rules` and `fillRules`, and on Stands: a PN ends where its width says.
 use mathlib.Core.Path.{_≡_, refl, ap, sym, _∙_}
-use mathlib.Core.Bool.{true, false, _&&_}
+use mathlib.Core.Bool.{Bool, true, false, _&&_}
 use mathlib.Core.List.{List, _∷_}
-use Prim.Native.Nat.{ℕ, zero, suc, _+_, _-_, _*_, _≤_, _<_}
+use Prim.Native.Nat.{ℕ, suc, _+_, _-_, _*_, _^_, _/_, _%_, _≤_, _<_}
 use native.Mathlib.Omega.{arith}
-use borrow.Author.Tests.{le-leb, lt-leb, lt-ltb, le-ltb}
+use native.Mathlib.Decide.{ℕ-discrete}
+use borrow.Author.Tests.{le-leb, lt-leb, lt-ltb, le-ltb, eq-eqb, ne-eqb, eqb-true}
 use lib.ListN.{length, getD, set, length-set}
-use lib.Dec.{leb, ltb}
+use lib.Dec.{leb, ltb, eqb}
 use mir.Val.{Fits}
-use mir.Syntax.{w64}
-use Rattle.fields.specs.Reading.{Got, got, bad, part, whole, field, mark, many}
+use mir.Syntax.{w8, w64}
+use Rattle.fields.specs.Reading.{Got, got, bad, part, be, whole, field, mark, many}
 use Rattle.fields.specs.Answers.{fieldOf, stepOf}
 use Rattle.fields.specs.declared.Field.{Field}
 use Rattle.fields.specs.declared.Field.the-variants.{Value, Cut}
 use Rattle.fields.specs.declared.Step.{Step}
 use Rattle.fields.specs.declared.Step.the-variants.{Next, Bad}
-use Rattle.fields.proofs.Reading.{took, stepped, stopped, field-cut, field-bad, field-ok}
-use Rattle.fields.proofs.Back.{whole-back, mark-back}
-use Rattle.fields.proofs.Tests.{and-yes, and-no, and-no-2}
+use Rattle.fields.proofs.Reading.{took, stepped, stopped, value-of, mark-yes, field-cut, field-bad, field-ok}
+use Rattle.fields.proofs.Back.{whole-back, be1}
+use Rattle.fields.proofs.Bytes.{be2}
+use Rattle.fields.proofs.Tests.{and-yes, and-no, and-no-2, never}
 use Rattle.schema.specs.Schema.{Node, nodeAt, schemaOf}
 use Rattle.schema.specs.Table.{NodeIn}
 use Rattle.policies.specs.Policies.{Rule, PN, ruleOf, rule, rules}
 use Rattle.policies.specs.Index.{ruleWidth, fillRules, SchemaIn}
-use Rattle.policy_reader.specs.Body.{Laid}
-use Rattle.policy_reader.specs.Runs.{ruleRead, Run, did, refused, runOf, Long}
+use Rattle.policy_reader.specs.Body.{Laid, Looking, noneOver}
+use Rattle.policy_reader.specs.Runs.{ruleRead, Expected, End, InRow, leftOf, Run, did, refused, runOf, Long}
 use Rattle.policy_reader.specs.declared.RuleRead.{RuleRead}
 use Rattle.policy_reader.specs.declared.RuleRead.the-variants.{Named, NoRule}
 use Rattle.policies.proofs.Nodes.{nodes-few}
 use Rattle.policies.proofs.Stands.{rule-of-back, rule-back}
+use Rattle.policies.proofs.Within.{pn-within}
+use Rattle.policy_reader.proofs.Body.{body-looking, body-read}
 
 -- ---- one PN
 
@@ -40,21 +44,21 @@ pub body-inside : (s : List ℕ) (p : ℕ) {f : Field} {v q : ℕ} → f ≡ fie
 body-inside s p e h = let w = whole-back 1 s p (took (whole 1 s p) e h) in omega (arith, w .next, w .inside)
 
 -- the node's rule
-module _ (schema : List ℕ) {t : List ℕ} (low v : ℕ) {count : ℕ} (w : SchemaIn schema t count) where
+module _ (schema : List ℕ) (low v : ℕ) where
   node-low : v < low → (leb low v && ltb v (length (schemaOf schema))) ≡ false
   node-low h = and-no (ltb v (length (schemaOf schema))) (lt-leb low v h)
 
-  node-high : low ≤ v → count ≤ v → (leb low v && ltb v (length (schemaOf schema))) ≡ false
-  node-high h k = and-no-2 (le-leb low v h) (le-ltb v (length (schemaOf schema)) (omega (arith, w .counted)))
+  node-high : low ≤ v → length (schemaOf schema) ≤ v → (leb low v && ltb v (length (schemaOf schema))) ≡ false
+  node-high h k = and-no-2 (le-leb low v h) (le-ltb v (length (schemaOf schema)) k)
 
-  node-good : low ≤ v → v < count → (leb low v && ltb v (length (schemaOf schema))) ≡ true
-  node-good h k = and-yes (le-leb low v h) (lt-ltb v (length (schemaOf schema)) (omega (arith, w .counted)))
+  node-good : low ≤ v → v < length (schemaOf schema) → (leb low v && ltb v (length (schemaOf schema))) ≡ true
+  node-good h k = and-yes (le-leb low v h) (lt-ltb v (length (schemaOf schema)) k)
 
-no-rule : (p : ℕ) (r : Got Rule) {m o : ℕ} → r ≡ bad m o → NoRule m o ≡ ruleRead p r
-no-rule p r e = rw e
+no-rule : (r : Got Rule) {m o : ℕ} → r ≡ bad m o → NoRule m o ≡ ruleRead r
+no-rule r e = rw e
 
 module _ (schema s : List ℕ) (low p : ℕ) {f : Step} where
-  pub rule-unmarked : {m o : ℕ} → f ≡ stepOf (mark PN s p) → f ≡ Bad m o → NoRule m o ≡ ruleRead p (rule (schemaOf schema) s low p)
+  pub rule-unmarked : {m o : ℕ} → f ≡ stepOf (mark PN s p) → f ≡ Bad m o → NoRule m o ≡ ruleRead (rule (schemaOf schema) s low p)
   unfolding rule part
   rule-unmarked e h = rw (stopped (mark PN s p) e h)
 
@@ -64,54 +68,107 @@ module _ (schema s : List ℕ) (low p : ℕ) {f : Step} where
     unfolding rule part
     opened = rw (stepped (mark PN s p) e h .1)
 
-    pub rule-cut : {m o : ℕ} → d ≡ Cut m o → NoRule m o ≡ ruleRead p (rule (schemaOf schema) s low p)
-    rule-cut k = no-rule p (rule (schemaOf schema) s low p) (opened ∙ field-cut 1 10 (λ n. leb low n && ltb n (length (schemaOf schema))) s a _ i k)
+    pub rule-cut : {m o : ℕ} → d ≡ Cut m o → NoRule m o ≡ ruleRead (rule (schemaOf schema) s low p)
+    rule-cut k = no-rule (rule (schemaOf schema) s low p) (opened ∙ field-cut 1 10 (λ n. leb low n && ltb n (length (schemaOf schema))) s a _ i k)
 
-    module _ {v b count : ℕ} {t : List ℕ} (k : d ≡ Value v b) (w : SchemaIn schema t count) where
-      pub rule-low : v < low → NoRule 10 a ≡ ruleRead p (rule (schemaOf schema) s low p)
+    module _ {v b : ℕ} (k : d ≡ Value v b) where
+      pub rule-low : v < low → NoRule 10 a ≡ ruleRead (rule (schemaOf schema) s low p)
       rule-low x =
-          no-rule p (rule (schemaOf schema) s low p)
-          (opened ∙ field-bad 1 10 (λ n. leb low n && ltb n (length (schemaOf schema))) s a _ i k (node-low schema low v w x))
+          no-rule (rule (schemaOf schema) s low p)
+          (opened ∙ field-bad 1 10 (λ n. leb low n && ltb n (length (schemaOf schema))) s a _ i k (node-low schema low v x))
 
-      pub rule-high : low ≤ v → count ≤ v → NoRule 10 a ≡ ruleRead p (rule (schemaOf schema) s low p)
-      rule-high x y =
-          no-rule p (rule (schemaOf schema) s low p)
-          (opened ∙ field-bad 1 10 (λ n. leb low n && ltb n (length (schemaOf schema))) s a _ i k (node-high schema low v w x y))
+      pub rule-high : {t : List ℕ} {count : ℕ} → SchemaIn schema t count → low ≤ v → count ≤ v → NoRule 10 a ≡ ruleRead (rule (schemaOf schema) s low p)
+      rule-high w x y =
+          no-rule (rule (schemaOf schema) s low p)
+          (opened
+          ∙ field-bad 1 10 (λ n. leb low n && ltb n (length (schemaOf schema))) s a _ i k
+          (node-high schema low v x (omega (arith, w .counted))))
 
-      module _ (x : low ≤ v) (y : v < count) {r : Step} (z : r ≡ stepOf (ruleOf s (nodeAt (schemaOf schema) v) v b)) where
+      module _ (x : low ≤ v) (y : v < length (schemaOf schema)) {r : Step} (z : r ≡ stepOf (ruleOf s (nodeAt (schemaOf schema) v) v b)) where
         then : {g : Got Rule} → ruleOf s (nodeAt (schemaOf schema) v) v b ≡ g → rule (schemaOf schema) s low p ≡ g
-        then u = opened ∙ field-ok 1 10 (λ n. leb low n && ltb n (length (schemaOf schema))) s a _ i k (node-good schema low v w x y) u
+        then u = opened ∙ field-ok 1 10 (λ n. leb low n && ltb n (length (schemaOf schema))) s a _ i k (node-good schema low v x y) u
 
-        pub rule-bad : {m o : ℕ} → r ≡ Bad m o → NoRule m o ≡ ruleRead p (rule (schemaOf schema) s low p)
-        rule-bad u = no-rule p (rule (schemaOf schema) s low p) (then (stopped (ruleOf s (nodeAt (schemaOf schema) v) v b) z u))
+        none-then : {m o : ℕ} → r ≡ Bad m o → NoRule m o ≡ ruleRead (rule (schemaOf schema) s low p)
+        none-then u = no-rule (rule (schemaOf schema) s low p) (then (stopped (ruleOf s (nodeAt (schemaOf schema) v) v b) z u))
 
-        pub rule-named : {above q : ℕ} → above ≡ v + 1 → r ≡ Next q → Named v b above q ≡ ruleRead p (rule (schemaOf schema) s low p)
-        rule-named {above} {q} o u =
+        named-then : {q : ℕ} → r ≡ Next q → Named v q ≡ ruleRead (rule (schemaOf schema) s low p)
+        named-then {q} u =
             let l = stepped (ruleOf s (nodeAt (schemaOf schema) v) v b) z u in
             let n : v ≡ l .0 .node = sym (rule-of-back s (nodeAt (schemaOf schema) v) v b (l .1) .node) in
-            let m : b ≡ p + 3 = omega (arith, mark-back PN s p (stepped (mark PN s p) e h .1) .next, whole-back 1 s a (took (whole 1 s a) i k) .next) in
-            let k : above ≡ l .0 .node + 1 = o ∙ ap (λ (i : ℕ). i + 1) n in
-            rw (then (l .1)) (λ i. Named (n i) (m i) (k i) q)
+            rw (then (l .1)) (ap (λ (i : ℕ). Named i q) n)
+
+      module _ {t : List ℕ} {count : ℕ} (w : SchemaIn schema t count) (x : low ≤ v) (y : v < count) {r : Step} (z : r ≡ stepOf (ruleOf s (nodeAt (schemaOf schema) v) v b)) where
+        pub rule-bad : {m o : ℕ} → r ≡ Bad m o → NoRule m o ≡ ruleRead (rule (schemaOf schema) s low p)
+        rule-bad u = none-then x (omega (arith, w .counted)) z u
+
+        pub rule-named : {q : ℕ} → r ≡ Next q → Named v q ≡ ruleRead (rule (schemaOf schema) s low p)
+        rule-named u = named-then x (omega (arith, w .counted)) z u
 
 pub ruleset of-rule = (rule-unmarked, rule-cut, rule-low, rule-high, rule-bad, rule-named)
 
--- ---- those of a policy
+-- ---- the PN that is expected
+
+-- two letters compared as numbers, the first one low
+pub pair-same : (s m : List ℕ) (p : ℕ) {x y : ℕ} → (x ≡ getD s (p + 1) 0 * 256 + getD s p 0) × (getD s p 0 < 256) × (getD s (p + 1) 0 < 256)
+    → (y ≡ getD m 1 0 * 256 + getD m 0 0) × (getD m 0 0 < 256) × (getD m 1 0 < 256) → eqb x y ≡ eqb (be 2 s p) (be 2 m 0)
+pair-same s m p {x} {y} a b = go (ℕ-discrete x y)
+  where
+    spelt : be 2 s p ≡ getD s p 0 * 256 + getD s (p + 1) 0
+    spelt = be2 s p
+
+    letters : be 2 m 0 ≡ getD m 0 0 * 256 + getD m 1 0
+    letters = be2 m 0
+
+    go : Dec (x ≡ y) → eqb x y ≡ eqb (be 2 s p) (be 2 m 0)
+    go (yes e) = eq-eqb x y e ∙ sym (eq-eqb (be 2 s p) (be 2 m 0) (omega (arith, a .0, a .1, b .0, b .1, spelt, letters)))
+    go (no e) = ne-eqb x y e ∙ sym (ne-eqb (be 2 s p) (be 2 m 0) (λ h. e (omega (arith, a .0, a .1, b .0, b .1, spelt, letters))))
+
+-- a node as a byte
+pub few-fits : (schema : List ℕ) (n : ℕ) → n < length (schemaOf schema) → Fits w8 n
+few-fits schema n h = record { fits = omega (arith, nodes-few schema) }
+
+pub expected-not : (g : List Node) (s : List ℕ) (n p q : ℕ) → Expected g s n p q false
+expected-not g s n p q = record { inside = λ e. never e; read = λ e. never e }
+
+module _ (schema t s : List ℕ) (n p : ℕ) {shape : ℕ} (w : Laid (schemaOf schema) (length (schemaOf schema)) t) (b : n < length (schemaOf schema))
+    (q : shape ≡ getD t (16 * n) 0) (l : p + (3 + shape / 8) ≤ length s) where
+  pub expected-looking : Looking t s n (shape % 8) (p + 3)
+  expected-looking = body-looking schema t n w b s (p + 3) q (omega arith) (omega arith)
+
+  pub expected-is : {m v : Bool} → m ≡ eqb (be 2 s p) (be 2 PN 0) → m ≡ true → getD s (p + 2) 0 ≡ n → v ≡ noneOver t s n (p + 3) (shape % 8)
+      → Expected (schemaOf schema) s n p (p + (3 + shape / 8)) v
+  expected-is {m} {v} e h i o = record { inside = λ z. omega arith; read = λ z. read z }
+    where
+      marked : Next (p + 2) ≡ stepOf (mark PN s p)
+      marked = mark-yes PN s p (value-of 2 s p (be 2 s p) (omega arith) refl) refl refl (eqb-true (be 2 s p) (be 2 PN 0) (sym e ∙ h))
+
+      named : Value n (p + 2 + 1) ≡ fieldOf (whole 1 s (p + 2))
+      named = value-of 1 s (p + 2) n (omega arith) (sym (be1 s (p + 2) ∙ i))
+
+      body : v ≡ true → Next (p + (3 + shape / 8)) ≡ stepOf (ruleOf s (nodeAt (schemaOf schema) n) n (p + 2 + 1))
+      body z =
+          let a : p + 2 + 1 ≡ p + 3 = omega arith in
+          let c : p + (3 + shape / 8) ≡ p + 3 + shape / 8 = omega arith in
+          rw (a, c) (body-read schema t n w b s (p + 3) q (omega arith) (omega arith) o z)
+
+      read : v ≡ true → Named n (p + (3 + shape / 8)) ≡ ruleRead (rule (schemaOf schema) s n p)
+      read z = named-then schema s n p marked refl named refl (omega arith) b (body z) refl
+
+-- ---- a PN that was read
 
 -- an answer, back to what was read
-record Answered (p : ℕ) (r : Got Rule) (n b above q : ℕ) : Type 0 where
+record Answered (r : Got Rule) (n q : ℕ) : Type 0 where
   pub what : Rule
   pub read : r ≡ got what q
   pub node : what .node ≡ n
-  pub body : b ≡ p + 3
-  pub low : above ≡ n + 1
 
-rule-took : (p : ℕ) (r : Got Rule) {f : RuleRead} {n b above q : ℕ} → f ≡ ruleRead p r → f ≡ Named n b above q → Answered p r n b above q
-rule-took p (got x u) e h = record { what = x; read = cc; node = cc; body = cc; low = cc }
-rule-took p (bad m o) e h = absurd (let z : _≡_ {A = ℕ} 0 1 = cc in omega arith)
+rule-took : (r : Got Rule) {f : RuleRead} {n q : ℕ} → f ≡ ruleRead r → f ≡ Named n q → Answered r n q
+rule-took (got x u) e h = record { what = x; read = cc; node = cc }
+rule-took (bad m o) e h = absurd (let z : _≡_ {A = ℕ} 0 1 = cc in omega arith)
 
-rule-none : (p : ℕ) (r : Got Rule) {f : RuleRead} {m o : ℕ} → f ≡ ruleRead p r → f ≡ NoRule m o → r ≡ bad m o
-rule-none p (got x u) e h = absurd (let z : _≡_ {A = ℕ} 0 1 = cc in omega arith)
-rule-none p (bad m o) e h = cc
+rule-none : (r : Got Rule) {f : RuleRead} {m o : ℕ} → f ≡ ruleRead r → f ≡ NoRule m o → r ≡ bad m o
+rule-none (got x u) e h = absurd (let z : _≡_ {A = ℕ} 0 1 = cc in omega arith)
+rule-none (bad m o) e h = cc
 
 fill-first : (j p : ℕ) (r : Got (List Rule)) (x : Rule) (t : List ℕ)
     → runOf (fillRules j p) (part r (λ xs q. got (x ∷ xs) q)) t ≡ runOf (fillRules j (p + ruleWidth x)) r (set t (16 + 16 * x .node + j) (p + 3))
@@ -119,99 +176,154 @@ unfolding fillRules part
 fill-first j p (got xs q) x t = refl
 fill-first j p (bad n o) x t = refl
 
--- what is left to read and to fill equals the whole; the index is as long as it was, and the lowest node's shape is known ahead
-pub record Filling (g : List Node) (l s : List ℕ) (j : ℕ) (t₀ : List ℕ) (X : Run) (k low ahead p : ℕ) (t : List ℕ) : Type 0 where
-  pub left : runOf (fillRules j p) (rules g s k low p) t ≡ X
+module _ (g : List Node) (s : List ℕ) (low p : ℕ) {f : RuleRead} {n q : ℕ} (e : f ≡ ruleRead (rule g s low p)) (h : f ≡ Named n q) where
+  -- a PN that was read is the first of those that were left
+  left-next : (j k : ℕ) (t : List ℕ) → leftOf g s j k (n + 1) q (set t (16 + 16 * n + j) (p + 3)) ≡ leftOf g s j (suc k) low p t
+  unfolding rules many part
+  left-next j k t =
+      let x = rule-took (rule g s low p) e h in
+      let u = rule-back g s low p (x .read) .next in
+      rw (x .read)
+      (ap (λ (z : ℕ). runOf (fillRules j z) (many (rule g s) (λ _ x. x .node + 1) k (n + 1) q) (set t (16 + 16 * n + j) (p + 3))) u
+      ∙ ap (λ (z : ℕ). runOf (fillRules j (p + ruleWidth (x .what))) (many (rule g s) (λ _ x. x .node + 1) k (z + 1) q) (set t (16 + 16 * z + j) (p + 3))) (sym (x .node))
+      ∙ sym (fill-first j p (many (rule g s) (λ _ x. x .node + 1) k (x .what .node + 1) q) (x .what) t))
+
+  rule-below : n < length g
+  rule-below = let w = rule-took (rule g s low p) e h in omega (arith, w .node, rule-back g s low p (w .read) .stands .below)
+
+  rule-width : p + 3 ≤ q
+  unfolding ruleWidth
+  rule-width = let w = rule-took (rule g s low p) e h in omega (arith, rule-back g s low p (w .read) .next)
+
+  rule-end : p ≤ length s → q ≤ length s
+  rule-end i = let w = rule-took (rule g s low p) e h in rw (w .read) at (pn-within s g low p i .end)
+
+-- ---- in a row
+
+module _ (g : List Node) (s : List ℕ) (j low p : ℕ) (t : List ℕ) (end : ℕ) where
+  pub row-start : low ≤ end → p ≤ length s → InRow g s j low p t end low p t
+  row-start a h =
+      record {
+        least = omega arith;
+        most = a;
+        inside = h;
+        same = refl;
+        left = λ k. ap (λ (i : ℕ). leftOf g s j i low p t) (let z : k ≡ low - low + k = omega arith in z);
+      }
+
+  pub row-more : (n q : ℕ) (u : List ℕ) {r : ℕ} {v : Bool} → InRow g s j low p t end n q u → n < end → Expected g s n q r v → v ≡ true
+      → InRow g s j low p t end (n + 1) r (set u (16 + 16 * n + j) (q + 3))
+  row-more n q u {r} i a e z =
+      record {
+        least = omega (arith, i .least);
+        most = omega arith;
+        inside = e .inside z;
+        same = length-set u (16 + 16 * n + j) (q + 3) ∙ i .same;
+        left = λ k.
+            left-next g s n q (e .read z) refl j k u
+            ∙ i .left (suc k)
+            ∙ ap (λ (m : ℕ). leftOf g s j m low p t) (let z : n - low + suc k ≡ n + 1 - low + k = omega (arith, i .least) in z);
+      }
+
+-- ---- all of them
+
+-- what is left to read and to fill equals the whole; the index is as long as it was
+pub record Filling (g : List Node) (s : List ℕ) (j : ℕ) (t₀ : List ℕ) (X : Run) (k low p : ℕ) (t : List ℕ) : Type 0 where
+  pub left : leftOf g s j k low p t ≡ X
   pub same : length t ≡ length t₀
   pub room : 16 + 16 * length g ≤ length t
-  pub known : ahead ≡ getD l (16 * low) 0
+  pub below : low ≤ length g
+  pub inside : p ≤ length s
+  pub few : j < 16
 
-pub rules-start : (schema l s : List ℕ) (j k p : ℕ) (t : List ℕ) → Long schema t
-    → Filling (schemaOf schema) l s j t (runOf (fillRules j p) (rules (schemaOf schema) s k 0 p) t) k 0 (getD l 0 0) p t
-rules-start schema l s j k p t w = record { left = refl; same = refl; room = w .long; known = refl }
+pub rules-start : (schema s : List ℕ) (j k p : ℕ) (t : List ℕ) → Long schema t → p ≤ length s → j < 16
+    → Filling (schemaOf schema) s j t (leftOf (schemaOf schema) s j k 0 p t) k 0 p t
+rules-start schema s j k p t w h l = record { left = refl; same = refl; room = w .long; below = omega arith; inside = h; few = l }
 
-module _ (g : List Node) (l s : List ℕ) (j : ℕ) (t₀ : List ℕ) {X : Run} (low ahead p : ℕ) (t : List ℕ) where
-  pub rules-done : (k : ℕ) → Filling g l s j t₀ X k low ahead p t → k ≤ 0 → did p t ≡ X
+-- what those in a row ask for
+module _ (schema s : List ℕ) (j : ℕ) (t₀ : List ℕ) (X : Run) (k low p : ℕ) (t : List ℕ) (i : Filling (schemaOf schema) s j t₀ X k low p t) where
+  pub row-low : {table : List ℕ} {count : ℕ} → SchemaIn schema table count → low ≤ count
+  row-low c = omega (arith, i .below, c .counted)
+
+  pub row-long : Long schema t
+  row-long = record { long = i .room }
+
+pub row-end : (schema table : List ℕ) (count low k e : ℕ) → SchemaIn schema table count → End count low k e → e ≤ length (schemaOf schema)
+row-end schema table count low k e c d = omega (arith, c .counted, d .most)
+
+pub row-few : (g : List Node) (s : List ℕ) (j low p : ℕ) (t : List ℕ) (e n q : ℕ) (u : List ℕ) {count k : ℕ} → End count low k e → InRow g s j low p t e n q u → n - low ≤ k
+row-few g s j low p t e n q u d r = omega (arith, d .few, r .most)
+
+module _ (schema s : List ℕ) (j : ℕ) (t₀ : List ℕ) {X : Run} (k low p : ℕ) (t : List ℕ) {count e n q : ℕ} {u : List ℕ} {table : List ℕ}
+    (i : Filling (schemaOf schema) s j t₀ X k low p t) (c : SchemaIn schema table count) (d : End count low k e) (r : InRow (schemaOf schema) s j low p t e n q u) where
+  abbrev g : List Node
+  g = schemaOf schema
+
+  -- after those in a row
+  rules-row : Filling g s j t₀ X (k - (n - low)) n q u
+  rules-row =
+      record {
+        left =
+            r .left (k - (n - low))
+            ∙ ap (λ (m : ℕ). leftOf g s j m low p t) (let z : n - low + (k - (n - low)) ≡ k = omega (arith, d .few, r .most) in z)
+            ∙ i .left;
+        same = r .same ∙ i .same;
+        room = omega (arith, i .room, r .same);
+        below = omega (arith, r .most, d .most, c .counted);
+        inside = r .inside;
+        few = i .few;
+      }
+
+  pub rules-done : k - (n - low) ≡ 0 → did q u ≡ X
   unfolding rules many fillRules
-  rules-done zero i a = i .left
-  rules-done (suc k) i a = absurd (omega arith)
+  rules-done z = rw z at (rules-row .left)
 
-  module _ {f : RuleRead} where
-    pub rules-bad : (k : ℕ) {m o : ℕ} → Filling g l s j t₀ X k low ahead p t → 0 < k → f ≡ ruleRead p (rule g s low p) → f ≡ NoRule m o → refused m o ≡ X
-    unfolding rules many part
-    rules-bad zero i a e h = absurd (omega arith)
-    rules-bad (suc k) i a e h = rw (rule-none p (rule g s low p) e h) at (i .left)
+  module _ {f : RuleRead} (a : k - (n - low) ≡ 0 → ⊥) (x : f ≡ ruleRead (rule g s n q)) where
+    more : suc (k - (n - low) - 1) ≡ k - (n - low)
+    more = omega arith
 
-    pub rules-more : (k : ℕ) {n b above q : ℕ} → Filling g l s j t₀ X k low ahead p t → 0 < k → f ≡ ruleRead p (rule g s low p) → f ≡ Named n b above q
-        → Filling g l s j t₀ X (k - 1) above (getD l (16 * above) 0) q (set t (16 + 16 * n + j) b)
+    pub rules-bad : {m o : ℕ} → f ≡ NoRule m o → refused m o ≡ X
     unfolding rules many part
-    rules-more zero i a e h = absurd (omega arith)
-    rules-more (suc k) {n} {b} {above} {q} i a e h =
-        let w : suc k - 1 ≡ k = omega arith in
-        let x = rule-took p (rule g s low p) e h in
-        let u = rule-back g s low p (x .read) .next in
-        let r : runOf (fillRules j (p + ruleWidth (x .what))) (many (rule g s) (λ _ x. x .node + 1) k (x .what .node + 1) q) (set t (16 + 16 * x .what .node + j) (p + 3)) ≡ X =
-        sym (fill-first j p (many (rule g s) (λ _ x. x .node + 1) k (x .what .node + 1) q) (x .what) t) ∙ (rw (x .read) at (i .left)) in
+    rules-bad h = rw (sym more, rule-none (rule g s n q) x h) at (rules-row .left)
+
+    pub rules-more : {m v : ℕ} → f ≡ Named m v → Filling g s j t₀ X (k - (n - low) - 1) (m + 1) v (set u (16 + 16 * m + j) (q + 3))
+    rules-more {m} {v} h =
         record {
           left =
-              rw w
-              (ap (λ (z : ℕ). runOf (fillRules j q) (many (rule g s) (λ _ x. x .node + 1) k z q) (set t (16 + 16 * n + j) b)) (x .low)
-              ∙ ap (λ (z : ℕ). runOf (fillRules j z) (many (rule g s) (λ _ x. x .node + 1) k (n + 1) q) (set t (16 + 16 * n + j) b)) u
-              ∙ ap (λ (z : ℕ). runOf (fillRules j (p + ruleWidth (x .what))) (many (rule g s) (λ _ x. x .node + 1) k (z + 1) q) (set t (16 + 16 * z + j) b)) (sym (x .node))
-              ∙ ap (λ (z : ℕ). runOf (fillRules j (p + ruleWidth (x .what))) (many (rule g s) (λ _ x. x .node + 1) k (x .what .node + 1) q) (set t (16 + 16 * x .what .node + j) z)) (x .body)
-              ∙ r);
-          same = length-set t (16 + 16 * n + j) b ∙ i .same;
-          room = omega (arith, length-set t (16 + 16 * n + j) b, i .room);
-          known = refl;
+              left-next g s n q x h j (k - (n - low) - 1) u
+              ∙ ap (λ (b : ℕ). leftOf g s j b n q u) more
+              ∙ rules-row .left;
+          same = length-set u (16 + 16 * m + j) (q + 3) ∙ rules-row .same;
+          room = omega (arith, length-set u (16 + 16 * m + j) (q + 3), rules-row .room);
+          below = omega (arith, rule-below g s n q x h);
+          inside = rule-end g s n q x h (r .inside);
+          few = i .few;
         }
 
--- its place in the index
-module _ (schema : List ℕ) (s : List ℕ) (low p : ℕ) {f : RuleRead} {n b above q : ℕ} (e : f ≡ ruleRead p (rule (schemaOf schema) s low p)) (h : f ≡ Named n b above q) where
-  rule-below : n < length (schemaOf schema)
-  rule-below =
-      let w = rule-took p (rule (schemaOf schema) s low p) e h in
-      omega (arith, w .node, rule-back (schemaOf schema) s low p (w .read) .stands .below)
+    -- its place in the index
+    module _ {m v : ℕ} (h : f ≡ Named m v) where
+      rule-small : m < 64
+      rule-small = omega (arith, rule-below g s n q x h, nodes-few schema)
 
-  pub rule-small : n < 64
-  rule-small = omega (arith, rule-below, nodes-few schema)
+      pub rule-place : 16 + 16 * m + j < length u
+      rule-place = omega (arith, rule-below g s n q x h, rules-row .room, i .few)
 
-  pub rule-place : (j : ℕ) {l t₀ t : List ℕ} {X : Run} {k ahead : ℕ} → Filling (schemaOf schema) l s j t₀ X k low ahead p t → j < 16 → 16 + 16 * n + j < length t
-  rule-place j i a = omega (arith, rule-below, i .room)
+      pub rule-body-fits : Fits w64 v → Fits w64 (q + 3)
+      rule-body-fits w = record { fits = omega (arith, w .fits, rule-width g s n q x h) }
 
-  pub rule-row-fits : Fits w64 (16 * n)
-  rule-row-fits = record { fits = omega (arith, rule-small) }
+      pub rule-row-fits : Fits w64 (16 * m)
+      rule-row-fits = record { fits = omega (arith, rule-small) }
 
-  pub rule-rows-fits : Fits w64 (16 + 16 * n)
-  rule-rows-fits = record { fits = omega (arith, rule-small) }
+      pub rule-rows-fits : Fits w64 (16 + 16 * m)
+      rule-rows-fits = record { fits = omega (arith, rule-small) }
 
-  pub rule-place-fits : (j : ℕ) → j < 16 → Fits w64 (16 + 16 * n + j)
-  rule-place-fits j a = record { fits = omega (arith, rule-small) }
+      pub rule-place-fits : Fits w64 (16 + 16 * m + j)
+      rule-place-fits = record { fits = omega (arith, rule-small, i .few) }
 
-  pub rule-scaled : (j : ℕ) → j < 16 → Fits w64 ((16 + 16 * n + j) * 8)
-  rule-scaled j a = record { fits = omega (arith, rule-small) }
+      pub rule-scaled : Fits w64 ((16 + 16 * m + j) * 8)
+      rule-scaled = record { fits = omega (arith, rule-small, i .few) }
 
-  -- the place of the lowest node that may follow, in the layout
-  rule-above : above ≤ 64
-  rule-above = let w = rule-took p (rule (schemaOf schema) s low p) e h in omega (arith, w .low, rule-small)
+      pub rule-above-fits : Fits w64 (m + 1)
+      rule-above-fits = record { fits = omega (arith, rule-small) }
 
-  pub above-fits : Fits w64 (16 * above)
-  above-fits = record { fits = omega (arith, rule-above) }
-
-  pub above-scaled : Fits w64 (16 * above * 4)
-  above-scaled = record { fits = omega (arith, rule-above) }
-
-  pub above-place : {l : List ℕ} {count : ℕ} → Laid (schemaOf schema) count l → 16 * above < length l
-  above-place w = let o = rule-took p (rule (schemaOf schema) s low p) e h in omega (arith, o .low, rule-below, w .long)
-
-pub first-place : (g : List Node) (l : List ℕ) {count : ℕ} → Laid g count l → 0 < length l
-first-place g l w = omega (arith, w .long)
-
--- what the layout holds of the node
-pub node-place : (schema : List ℕ) (l : List ℕ) (v : ℕ) {t : List ℕ} {count : ℕ} → SchemaIn schema t count → Laid (schemaOf schema) count l → v < count → 16 * v < length l
-node-place schema l v w k h = omega (arith, k .long, w .counted)
-
-pub node-few : (schema : List ℕ) (v : ℕ) {t : List ℕ} {count : ℕ} → SchemaIn schema t count → v < count → v < 64
-node-few schema v w h = omega (arith, w .counted, nodes-few schema)
-
-pub shape-ahead : (l : List ℕ) (n low ahead : ℕ) → ahead ≡ getD l (16 * low) 0 → n ≡ low → (ahead ≡ getD l (16 * n) 0) × (low + 1 ≡ n + 1)
-shape-ahead l n low ahead e h = (e ∙ ap (λ (i : ℕ). getD l (16 * i) 0) (sym h), ap (λ (i : ℕ). i + 1) (sym h))
+pub ruleset of-place = (rule-place, rule-body-fits, rule-row-fits, rule-rows-fits, rule-place-fits, rule-scaled, rule-above-fits)

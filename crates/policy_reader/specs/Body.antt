@@ -34,9 +34,9 @@ pub record NodeLaid (x : Node) (n : ℕ) (t : List ℕ) : Type 0 where
   pub at : (k : ℕ) → k < length (x .variables) → getD t (2 + 16 * n + 2 * k) 0 ≡ offsetOf x k
   pub most : (k : ℕ) → k < length (x .variables) → getD t (2 + 16 * n + 2 * k + 1) 0 ≡ mostOf (getD (x .variables) k noVariable)
 
--- t holds the layout of the nodes below n; there is a place for the shape of one node more
+-- t holds the layout of the nodes below n
 pub record Laid (g : List Node) (n : ℕ) (t : List ℕ) : Type 0 where
-  pub long : 1 + 16 * length g ≤ length t
+  pub long : 16 * length g ≤ length t
   pub each : (m : ℕ) → m < n → NodeLaid (nodeAt g m) m t
 
 -- no condition of the first k exceeds its greatest number, in a PN of node n whose ranks begin at p

@@ -1,14 +1,16 @@
 -- What the reader's functions answer, and the index that they fill.
 -- For the contracts of functions that no other crate calls.
-use Prim.Native.Nat.{ℕ, _+_, _*_, _≤_}
+use Prim.Native.Nat.{ℕ, _+_, _-_, _*_, _≤_}
+use mathlib.Core.Path.{_≡_}
+use mathlib.Core.Bool.{Bool, true}
 use mathlib.Core.List.{List}
 use lib.ListN.{length}
 use Rattle.fields.specs.Reading.{Got, got, bad}
 use Rattle.fields.specs.declared.Step.{Step}
 use Rattle.fields.specs.declared.Step.the-variants.{Next, Bad}
-use Rattle.schema.specs.Schema.{schemaOf}
-use Rattle.policies.specs.Policies.{Rule, Policy, Head}
-use Rattle.policies.specs.Index.{fillPolicies}
+use Rattle.schema.specs.Schema.{Node, schemaOf}
+use Rattle.policies.specs.Policies.{Rule, Policy, Head, rule, rules}
+use Rattle.policies.specs.Index.{fillRules, fillPolicies}
 use Rattle.policy_reader.specs.declared.HeadRead.{HeadRead}
 use Rattle.policy_reader.specs.declared.HeadRead.the-variants.{Found, NoHead}
 use Rattle.policy_reader.specs.declared.RuleRead.{RuleRead}
@@ -25,10 +27,21 @@ headIn (NoHead n o) = bad n o
 pub record Long (s t : List ℕ) : Type 0 where
   pub long : 16 + 16 * length (schemaOf s) ≤ length t
 
--- a PN that began at p: its node, the place of its ranks and the lowest node that may follow
-abbrev pub ruleRead : ℕ → Got Rule → RuleRead
-ruleRead p (got x q) = Named (x .node) (p + 3) (x .node + 1) q
-ruleRead p (bad n o) = NoRule n o
+-- a PN's node and the position after it
+abbrev pub ruleRead : Got Rule → RuleRead
+ruleRead (got x q) = Named (x .node) q
+ruleRead (bad n o) = NoRule n o
+
+-- r is true only where a PN of node n stands at p and ends at q
+pub record Expected (g : List Node) (s : List ℕ) (n p q : ℕ) (r : Bool) : Type 0 where
+  pub inside : r ≡ true → q ≤ length s
+  pub read : r ≡ true → Named n q ≡ ruleRead (rule g s n p)
+
+-- k PN in a row from node low on that stay below e are all of nodes below count
+pub record End (count low k e : ℕ) : Type 0 where
+  pub least : low ≤ e
+  pub most : e ≤ count
+  pub few : e ≤ low + k
 
 -- what a call that fills the index did: a number and the index, or a refusal, whatever the index then holds
 pub data Run : Type 0 where
@@ -43,6 +56,18 @@ outcome (Bad n o) t = refused n o
 abbrev pub runOf : {A : Type 0} → (A → List ℕ → List ℕ) → Got A → List ℕ → Run
 runOf f (got a q) t = did q (f a t)
 runOf f (bad n o) t = refused n o
+
+-- k PN of policy j from p on, of nodes from low on, put into the index t
+abbrev pub leftOf : List Node → List ℕ → ℕ → ℕ → ℕ → ℕ → List ℕ → Run
+leftOf g s j k low p t = runOf (fillRules j p) (rules g s k low p) t
+
+-- PN were read in a row, from node low and position p on, to node n and position q: what is left then equals what was left
+pub record InRow (g : List Node) (s : List ℕ) (j low p : ℕ) (t : List ℕ) (end n q : ℕ) (u : List ℕ) : Type 0 where
+  pub least : low ≤ n
+  pub most : n ≤ end
+  pub inside : q ≤ length s
+  pub same : length u ≡ length t
+  pub left : (k : ℕ) → leftOf g s j k n q u ≡ leftOf g s j (n - low + k) low p t
 
 abbrev pub fileOutcome : PoliciesRead → List ℕ → Run
 fileOutcome (Policies n) t = did n t

@@ -1,14 +1,16 @@
 // The reader of policies files.
 ghost use mathlib.Core.Path.{_≡_};
-ghost use Prim.Native.Nat.{_+_, _*_, _<_, _≤_};
+ghost use Prim.Native.Nat.{_+_, _*_, _/_, _<_, _≤_};
 ghost use lib.ListN.{length, getD, set, drop, replicate};
+ghost use lib.Dec.{eqb};
+ghost use Rattle.fields.specs.Reading.{be};
 ghost use Rattle.fields.specs.Answers.{stepOf};
 ghost use Rattle.schema.specs.Schema.{schemaOf, nodeAt, variableAt};
 ghost use Rattle.schema.specs.Table.{NodeIn};
-ghost use Rattle.policies.specs.Policies.{ranks, condition, conditions, ruleOf, rule, rules, head, policy, policies};
-ghost use Rattle.policies.specs.Index.{fillRules, fillPolicy, SchemaIn, IndexRoom};
+ghost use Rattle.policies.specs.Policies.{ruleOf, rule, head, policy, policies};
+ghost use Rattle.policies.specs.Index.{fillPolicy, SchemaIn, IndexRoom};
 ghost use Rattle.policy_reader.specs.Body.{mostOf, Laid, Looking, noneOver};
-ghost use Rattle.policy_reader.specs.Runs.{headIn, ruleRead, outcome, runOf, fileOutcome, fileRun, Long};
+ghost use Rattle.policy_reader.specs.Runs.{headIn, ruleRead, Expected, InRow, End, leftOf, outcome, runOf, fileOutcome, fileRun, Long};
 ghost use Rattle.policy_reader.specs.Answers.{Told};
 use fields::Field;
 use fields::Step;
@@ -28,18 +30,16 @@ enum HeadRead {
     },
 }
 
-// A PN: its node, the place of its ranks, the lowest node that may follow and the position after it, or a breach.
+// A PN's node and the position after it, or a breach.
 enum RuleRead {
-    Named {
-        node: usize,
-        body: usize,
-        low: usize,
-        next: usize,
-    },
-    NoRule {
-        number: u8,
-        offset: usize,
-    },
+    Named { node: usize, next: usize },
+    NoRule { number: u8, offset: usize },
+}
+
+// How far the PN of a policy were read: the lowest node that may follow, and the position.
+struct Progress {
+    low: usize,
+    at: usize,
 }
 
 // How many policies a file has, or a breach.
@@ -120,88 +120,6 @@ fn head_from(p: &[u8], at: usize) -> HeadRead
     ensures { λ r. ⌜ head (drop at (now (p .entry))) ≡ headIn r ⌝ }
 {
     head_here(walker_at(p, at))
-}
-
-// k ranks.
-fn read_ranks(b: &[u8], k: usize, from: usize) -> Step
-    ensures { λ r. ⌜ r ≡ stepOf (ranks (now (b .entry)) k from) ⌝ }
-{
-    let mut left = k;
-    let mut at = from;
-    while 0 < left {
-        match reading::read_u8(b, at) {
-            Field::Cut { number, offset } => {
-                return Step::Bad { number, offset };
-            }
-            Field::Value { value: _, next } => {
-                at = next;
-                left -= 1;
-            }
-        }
-    }
-    Step::Next { at }
-}
-
-// The condition of a variable.
-fn read_condition(b: &[u8], v: Variable, at: usize) -> Step
-    ensures { λ r. ⌜ r ≡ stepOf (condition (now (b .entry)) v at) ⌝ }
-{
-    match reading::read_u32(b, at) {
-        Field::Cut { number, offset } => Step::Bad { number, offset },
-        Field::Value { value, next } => match v {
-            Variable::Number { lo: _, hi: _ } => match reading::read_u32(b, next) {
-                Field::Cut { number, offset } => Step::Bad { number, offset },
-                Field::Value { value: _, next } => Step::Next { at: next },
-            },
-            Variable::Listed { size } => {
-                if numbers::within(value, size) {
-                    return Step::Next { at: next };
-                }
-                Step::Bad {
-                    number: 11,
-                    offset: at,
-                }
-            }
-        },
-    }
-}
-
-// The conditions of node n's variables.
-fn read_conditions(schema: &[u8], table: &[usize], n: usize, b: &[u8], from: usize) -> Step
-    requires { ⌜ NodeIn (now schema) (now table) n ⌝ }
-    ensures { λ r. ⌜ r ≡ stepOf (conditions (now (b .entry)) (nodeAt (schemaOf (now (schema .entry))) n .variables) from) ⌝ }
-{
-    let v = nodes::variable_count(schema, table, n);
-    let mut k: usize = 0;
-    let mut at = from;
-    while k < v {
-        let x = nodes::variable_of(schema, table, n, k);
-        match read_condition(b, x, at) {
-            Step::Bad { number, offset } => {
-                return Step::Bad { number, offset };
-            }
-            Step::Next { at: next } => {
-                at = next;
-                k += 1;
-            }
-        }
-    }
-    Step::Next { at }
-}
-
-// The ranks and conditions of node n, field by field.
-fn read_fields(schema: &[u8], table: &[usize], n: usize, b: &[u8], from: usize) -> Step
-    requires { ⌜ NodeIn (now schema) (now table) n ⌝ }
-    ensures { λ r. ⌜ r ≡ stepOf (ruleOf (now (b .entry)) (nodeAt (schemaOf (now (schema .entry))) n) n from) ⌝ }
-{
-    let k = policies::rank_count(schema, table, n);
-    match read_ranks(b, k, from) {
-        Step::Bad { number, offset } => Step::Bad { number, offset },
-        Step::Next { at } => match read_conditions(schema, table, n, b, at) {
-            Step::Bad { number, offset } => Step::Bad { number, offset },
-            Step::Next { at } => Step::Next { at },
-        },
-    }
 }
 
 // The greatest number that the mask of node n's variable k may spell.
@@ -289,30 +207,74 @@ fn none_over(layout: &[u32], n: usize, looks: usize, b: &[u8], from: usize) -> b
     true
 }
 
-// What the layout holds of a node, and the lowest node that may follow it.
-struct Shape {
-    shape: u32,
-    low: usize,
+// Two bytes as one number, the first one low.
+fn pair(low: u8, high: u8) -> u32
+    ensures { λ r. ⌜ (r ≡ high * 256 + low) × (low < 256) × (high < 256) ⌝ }
+{
+    (high as u32) * 256 + (low as u32)
 }
 
-// As a rule a PN names the lowest node that may follow the one before. What the layout holds of that is known ahead, so
-// that the place of the next PN need not wait for this one's node.
-fn shape_of(layout: &[u32], n: usize, low: usize, ahead: u32) -> Shape
-    requires { ⌜ ahead ≡ getD (now layout) (16 * low) 0 ⌝ }
-    requires { ⌜ n < 64 ⌝ }
-    requires { ⌜ 16 * n < length (now layout) ⌝ }
-    ensures { λ r. ⌜ (r .shape ≡ getD (now (layout .entry)) (16 * n) 0) × (r .low ≡ n + 1) ⌝ }
+// Whether the letters of a mark stand at a position, compared at once.
+fn is_marked(b: &[u8], at: usize, m: &[u8; 2]) -> bool
+    requires { ⌜ at + 2 ≤ length (now b) ⌝ }
+    ensures { λ r. ⌜ r ≡ eqb (be 2 (now (b .entry)) at) (be 2 (now (m .entry)) 0) ⌝ }
 {
-    if n == low {
-        return Shape {
-            shape: ahead,
-            low: low + 1,
-        };
+    pair(b[at], b[at + 1]) == pair(m[0], m[1])
+}
+
+// Whether a PN of node n, whose shape is given, stands at a position, whole and with no mask over. The schema is for the
+// contract alone.
+fn is_expected(schema: &[u8], layout: &[u32], n: usize, shape: u32, b: &[u8], at: usize) -> bool
+    requires { ⌜ Laid (schemaOf (now schema)) (length (schemaOf (now schema))) (now layout) ⌝ }
+    requires { ⌜ n < length (schemaOf (now schema)) ⌝ }
+    requires { ⌜ shape ≡ getD (now layout) (16 * n) 0 ⌝ }
+    requires { ⌜ at ≤ length (now b) ⌝ }
+    ensures { λ r. ⌜ Expected (schemaOf (now (schema .entry))) (now (b .entry)) n at (at + (3 + shape / 8)) r ⌝ }
+{
+    if at + (3 + (shape / 8) as usize) <= b.len() {
+        if is_marked(b, at, b"PN") {
+            if b[at + 2] == n as u8 {
+                return none_over(layout, n, (shape % 8) as usize, b, at + 3);
+            }
+            return false;
+        }
+        return false;
     }
-    Shape {
-        shape: layout[16 * n],
-        low: n + 1,
+    false
+}
+
+// As a rule the PN of a policy name the nodes in a row. Such PN of policy j, of nodes below end, put into the index: a
+// loop of its own, so that the other ways to read a PN do not slow it down. The schema is for the contract alone.
+fn read_expected(
+    schema: &[u8],
+    layout: &[u32],
+    b: &[u8],
+    j: usize,
+    end: usize,
+    from: Progress,
+    index: &mut [usize],
+) -> Progress
+    requires { ⌜ Laid (schemaOf (now schema)) (length (schemaOf (now schema))) (now layout) ⌝ }
+    requires { ⌜ from .low ≤ end ⌝ }
+    requires { ⌜ end ≤ length (schemaOf (now schema)) ⌝ }
+    requires { ⌜ from .at ≤ length (now b) ⌝ }
+    requires { ⌜ j < 16 ⌝ }
+    requires { ⌜ Long (now schema) (now index) ⌝ }
+    ensures { λ r. ⌜ InRow (schemaOf (now (schema .entry))) (now (b .entry)) j (from .low) (from .at) (now (index .entry)) end (r .low) (r .at) (now (index .exit)) ⌝ }
+{
+    let mut low = from.low;
+    let mut at = from.at;
+    while low < end {
+        let shape = layout[16 * low];
+        if is_expected(schema, layout, low, shape, b, at) {
+            index[16 + 16 * low + j] = at + 3;
+            at += 3 + (shape / 8) as usize;
+            low += 1;
+        } else {
+            return Progress { low, at };
+        }
     }
+    Progress { low, at }
 }
 
 // The ranks and conditions of node n: by one test of the length where all is well, else field by field.
@@ -321,49 +283,45 @@ fn read_body(
     table: &[usize],
     layout: &[u32],
     n: usize,
-    shape: u32,
     b: &[u8],
     from: usize,
 ) -> Step
     requires { ⌜ NodeIn (now schema) (now table) n ⌝ }
     requires { ⌜ Laid (schemaOf (now schema)) (length (schemaOf (now schema))) (now layout) ⌝ }
-    requires { ⌜ shape ≡ getD (now layout) (16 * n) 0 ⌝ }
     requires { ⌜ from ≤ length (now b) ⌝ }
     ensures { λ r. ⌜ r ≡ stepOf (ruleOf (now (b .entry)) (nodeAt (schemaOf (now (schema .entry))) n) n from) ⌝ }
 {
+    let shape = layout[16 * n];
     let width = (shape / 8) as usize;
     if width <= b.len() - from {
         if none_over(layout, n, (shape % 8) as usize, b, from) {
             return Step::Next { at: from + width };
         }
-        return read_fields(schema, table, n, b, from);
+        return rule_reader::read_fields(schema, table, n, b, from);
     }
-    read_fields(schema, table, n, b, from)
+    rule_reader::read_fields(schema, table, n, b, from)
 }
 
-// A PN, of a node not below low.
+// A PN, of a node not below the lowest that may follow.
 fn read_rule(
     schema: &[u8],
     table: &[usize],
     layout: &[u32],
     count: usize,
     b: &[u8],
-    low: usize,
-    ahead: u32,
-    from: usize,
+    from: Progress,
 ) -> RuleRead
     requires { ⌜ SchemaIn (now schema) (now table) count ⌝ }
-    requires { ⌜ Laid (schemaOf (now schema)) count (now layout) ⌝ }
-    requires { ⌜ ahead ≡ getD (now layout) (16 * low) 0 ⌝ }
-    ensures { λ r. ⌜ r ≡ ruleRead from (rule (schemaOf (now (schema .entry))) (now (b .entry)) low from) ⌝ }
+    requires { ⌜ Laid (schemaOf (now schema)) (length (schemaOf (now schema))) (now layout) ⌝ }
+    ensures { λ r. ⌜ r ≡ ruleRead (rule (schemaOf (now (schema .entry))) (now (b .entry)) (from .low) (from .at)) ⌝ }
 {
-    match reading::read_mark(b, from, b"PN") {
+    match reading::read_mark(b, from.at, b"PN") {
         Step::Bad { number, offset } => RuleRead::NoRule { number, offset },
         Step::Next { at } => match reading::read_u8(b, at) {
             Field::Cut { number, offset } => RuleRead::NoRule { number, offset },
             Field::Value { value, next: body } => {
                 let node = value as usize;
-                if node < low {
+                if node < from.low {
                     return RuleRead::NoRule {
                         number: 10,
                         offset: at,
@@ -375,19 +333,24 @@ fn read_rule(
                         offset: at,
                     };
                 }
-                let x = shape_of(layout, node, low, ahead);
-                match read_body(schema, table, layout, node, x.shape, b, body) {
+                match read_body(schema, table, layout, node, b, body) {
                     Step::Bad { number, offset } => RuleRead::NoRule { number, offset },
-                    Step::Next { at: next } => RuleRead::Named {
-                        node,
-                        body,
-                        low: x.low,
-                        next,
-                    },
+                    Step::Next { at: next } => RuleRead::Named { node, next },
                 }
             }
         },
     }
+}
+
+// The node below which PN in a row stay, where left of them follow from node low on.
+fn end_of(count: usize, low: usize, left: usize) -> usize
+    requires { ⌜ low ≤ count ⌝ }
+    ensures { λ r. ⌜ End count low left r ⌝ }
+{
+    if left < count - low {
+        return low + left;
+    }
+    count
 }
 
 // The n PN of policy j, put into the index.
@@ -403,35 +366,33 @@ fn read_rules(
     index: &mut [usize],
 ) -> Step
     requires { ⌜ SchemaIn (now schema) (now table) count ⌝ }
-    requires { ⌜ Laid (schemaOf (now schema)) count (now layout) ⌝ }
+    requires { ⌜ Laid (schemaOf (now schema)) (length (schemaOf (now schema))) (now layout) ⌝ }
+    requires { ⌜ from ≤ length (now b) ⌝ }
     requires { ⌜ j < 16 ⌝ }
     requires { ⌜ Long (now schema) (now index) ⌝ }
-    ensures { λ r. ⌜ outcome r (now (index .exit)) ≡ runOf (fillRules j from) (rules (schemaOf (now (schema .entry))) (now (b .entry)) n 0 from) (now (index .entry)) ⌝ }
+    ensures { λ r. ⌜ outcome r (now (index .exit)) ≡ leftOf (schemaOf (now (schema .entry))) (now (b .entry)) j n 0 from (now (index .entry)) ⌝ }
 {
-    let mut left = n;
-    let mut low: usize = 0;
-    let mut ahead = layout[0];
-    let mut at = from;
-    while 0 < left {
-        match read_rule(schema, table, layout, count, b, low, ahead, at) {
+    let mut left = n as usize;
+    let mut row = Progress { low: 0, at: from };
+    loop {
+        let low = row.low;
+        row = read_expected(schema, layout, b, j, end_of(count, low, left), row, index);
+        left -= row.low - low;
+        if left == 0 {
+            return Step::Next { at: row.at };
+        }
+        match read_rule(schema, table, layout, count, b, row) {
             RuleRead::NoRule { number, offset } => {
                 return Step::Bad { number, offset };
             }
-            RuleRead::Named {
-                node,
-                body,
-                low: above,
-                next,
-            } => {
-                index[16 + 16 * node + j] = body;
-                low = above;
-                ahead = layout[16 * above];
-                at = next;
+            RuleRead::Named { node, next } => {
+                index[16 + 16 * node + j] = row.at + 3;
+                row.low = node + 1;
+                row.at = next;
                 left -= 1;
             }
         }
     }
-    Step::Next { at }
 }
 
 // Policy j, on its own stretch of the file p, from its head on.
@@ -554,9 +515,9 @@ pub fn read_policies(
     ensures { λ r. ⌜ Told (now (schema .entry)) (now (p .entry)) r (now (index .exit)) ⌝ }
 {
     if count <= 16 {
-        let mut layout = [0u32; 257];
+        let mut layout = [0u32; 256];
         return read_by_layout(schema, table, &mut layout, count, p, index);
     }
-    let mut layout = [0u32; 1025];
+    let mut layout = [0u32; 1024];
     read_by_layout(schema, table, &mut layout, count, p, index)
 }

@@ -1,7 +1,8 @@
 -- A head that is refused, or the PN after it.
 -- Rests on the laws of a head and what follows it.
 use borrow.Author.Needs.{needs}
-use Rattle.policy_reader.proofs.File.{of-policy, head-room, head-same, long-set}
+use Rattle.policy_reader.proofs.Laying.{laid-all}
+use Rattle.policy_reader.proofs.File.{of-policy, rules-inside, head-room, head-same, long-set}
 use Rattle.policy_reader.proofs.read_policy.Statement.{statement}
 use Rattle.policy_reader.proofs.read_policy.Tie as tie
 
@@ -30,7 +31,7 @@ part-read-rules-end : tie.Need-part-read-rules-end
 part-read-rules-end c = search needs
 
 read-rules-requires : tie.Need-read-rules-requires
-read-rules-requires c κs = (search needs, (search needs, (search needs, search long-set)))
+read-rules-requires c κs = (search needs, (search laid-all, (search rules-inside, (search needs, search long-set))))
 
 returns : tie.Need-returns
 returns c = search of-policy

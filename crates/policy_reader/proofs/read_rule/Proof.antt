@@ -1,7 +1,6 @@
 -- Each return is one way that a field or the rest of a PN can end.
 -- Rests on the laws of a PN as the code reads it.
-use Rattle.policy_reader.proofs.Rules.{node-in, node-few, node-place, body-inside, of-rule}
-use Rattle.policy_reader.proofs.Laying.{laid-all}
+use Rattle.policy_reader.proofs.Rules.{node-in, body-inside, of-rule}
 use borrow.Author.Needs.{needs}
 use Rattle.policy_reader.proofs.read_rule.Statement.{statement}
 use Rattle.policy_reader.proofs.read_rule.Tie as tie
@@ -33,11 +32,8 @@ returns c = search of-rule
 returns-2 : tie.Need-returns-2
 returns-2 c = search of-rule
 
-shape-of-requires : tie.Need-shape-of-requires
-shape-of-requires c κs = (search needs, (search node-few, search node-place))
-
 read-body-requires : tie.Need-read-body-requires
-read-body-requires c κs = (search node-in, (search laid-all, (search needs, search body-inside)))
+read-body-requires c κs = (search node-in, (search needs, search body-inside))
 
 enum-known-number-3 : tie.Need-enum-known-number-3
 enum-known-number-3 c = search needs
@@ -70,7 +66,6 @@ read-rule-spec =
     cast-node
     returns
     returns-2
-    shape-of-requires
     read-body-requires
     enum-known-number-3
     enum-known-next

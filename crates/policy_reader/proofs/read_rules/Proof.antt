@@ -2,25 +2,38 @@
 -- Rests on the laws of the loop over the PN of a policy.
 use borrow.Author.Needs.{needs}
 use Rattle.schema.specs.Schema.{schemaOf}
-use Rattle.policies.specs.Policies.{rules}
-use Rattle.policies.specs.Index.{fillRules}
-use Rattle.policy_reader.specs.Runs.{runOf}
-use Rattle.policy_reader.proofs.Rules.{Filling, rules-start, rules-bad, rules-more, rules-done, rule-place, rule-row-fits, rule-rows-fits, rule-place-fits, rule-scaled, above-fits, above-scaled, above-place, first-place}
+use Rattle.policy_reader.specs.Runs.{leftOf}
+use Rattle.policy_reader.proofs.Rules.{Filling, rules-start, row-low, row-end, row-long, row-few, rules-done, rules-bad, rules-more, of-place, rule-place, rule-place-fits, rule-scaled}
 use Rattle.policy_reader.proofs.read_rules.Statement.{statement}
 use Rattle.policy_reader.proofs.read_rules.Tie as tie
 
 abbrev Inv-loop : tie.InvT-loop
-Inv-loop schema table layout count b j n from index₀ left₀ low₀ ahead₀ at₀ index left low ahead at =
-    Filling (schemaOf schema) layout b j index₀ (runOf (fillRules j from) (rules (schemaOf schema) b n 0 from) index₀) left low ahead at index
+Inv-loop schema table layout count b j n from index₀ left₀ row₀ index left row =
+    Filling (schemaOf schema) b j index₀ (leftOf (schemaOf schema) b j n 0 from index₀) left (row .low) (row .at) index
 
 abbrev μ-loop : tie.MeasureT-loop
-μ-loop schema table layout count b j n from index₀ left₀ low₀ ahead₀ at₀ index left low ahead at = left
-
-shared-slice-read-ahead : tie.Need-shared-slice-read-ahead Inv-loop μ-loop
-shared-slice-read-ahead c = search first-place
+μ-loop schema table layout count b j n from index₀ left₀ row₀ index left row = left
 
 loop-holds : tie.Need-loop-holds Inv-loop μ-loop
 loop-holds c = search rules-start
+
+end-of-requires : tie.Need-end-of-requires Inv-loop μ-loop
+end-of-requires c κs = search row-low
+
+read-expected-requires : tie.Need-read-expected-requires Inv-loop μ-loop
+read-expected-requires c κs = (search needs, (search needs, (search row-end, (search needs, (search needs, search row-long)))))
+
+sub-left : tie.Need-sub-left Inv-loop μ-loop
+sub-left c = search needs
+
+sub-left-2 : tie.Need-sub-left-2 Inv-loop μ-loop
+sub-left-2 c = search (row-few, c .before .before .before .read-expected .ensures)
+
+same-length : tie.Need-same-length Inv-loop μ-loop
+same-length c = search needs
+
+returns : tie.Need-returns Inv-loop μ-loop
+returns c = search rules-done
 
 read-rule-requires : tie.Need-read-rule-requires Inv-loop μ-loop
 read-rule-requires c κs = search needs
@@ -28,53 +41,44 @@ read-rule-requires c κs = search needs
 enum-known-number : tie.Need-enum-known-number Inv-loop μ-loop
 enum-known-number c = search needs
 
-same-length : tie.Need-same-length Inv-loop μ-loop
-same-length c = search needs
+same-length-2 : tie.Need-same-length-2 Inv-loop μ-loop
+same-length-2 c = search needs
 
-returns : tie.Need-returns Inv-loop μ-loop
-returns c = search rules-bad
+returns-2 : tie.Need-returns-2 Inv-loop μ-loop
+returns-2 c = search rules-bad
 
 enum-known-node : tie.Need-enum-known-node Inv-loop μ-loop
 enum-known-node c = search needs
 
-mul-index : tie.Need-mul-index Inv-loop μ-loop
-mul-index c = search rule-row-fits
-
 add-index : tie.Need-add-index Inv-loop μ-loop
-add-index c = search rule-rows-fits
+add-index c = search of-place
+
+mul-index : tie.Need-mul-index Inv-loop μ-loop
+mul-index c = search of-place
 
 add-index-2 : tie.Need-add-index-2 Inv-loop μ-loop
-add-index-2 c = search rule-place-fits
+add-index-2 c = search of-place
+
+add-index-3 : tie.Need-add-index-3 Inv-loop μ-loop
+add-index-3 c = search (rule-place-fits, c .before .before .before .before .before .before .before .before .before .before .before .before .loop .inv)
 
 mul-index-2 : tie.Need-mul-index-2 Inv-loop μ-loop
-mul-index-2 c = search rule-scaled
+mul-index-2 c = search (rule-scaled, c .before .before .before .before .before .before .before .before .before .before .before .before .loop .inv)
 
 slice-write-index : tie.Need-slice-write-index Inv-loop μ-loop
-slice-write-index c = rule-place _ _ _ _ (c .before .before .before .read-rule .ensures) (c .before .node .given .1) _ (c .before .before .before .before .before .loop .inv) (c .before .before .before .before .before .before .before .before .before .before .before .before .pre .1 .1 .0)
+slice-write-index c = search (rule-place, c .before .before .before .before .before .before .before .before .before .before .before .before .loop .inv)
 
-mul-ahead : tie.Need-mul-ahead Inv-loop μ-loop
-mul-ahead c = search above-fits
+add-row : tie.Need-add-row Inv-loop μ-loop
+add-row c = search of-place
 
-mul-ahead-2 : tie.Need-mul-ahead-2 Inv-loop μ-loop
-mul-ahead-2 c = search above-scaled
-
-shared-slice-read-ahead-2 : tie.Need-shared-slice-read-ahead-2 Inv-loop μ-loop
-shared-slice-read-ahead-2 c = search above-place
-
-sub-left : tie.Need-sub-left Inv-loop μ-loop
-sub-left c = search needs
+sub-left-3 : tie.Need-sub-left-3 Inv-loop μ-loop
+sub-left-3 c = search needs
 
 loop-less : tie.Need-loop-less Inv-loop μ-loop
 loop-less c = search needs
 
 loop-again : tie.Need-loop-again Inv-loop μ-loop
-loop-again c = search rules-more
-
-same-length-2 : tie.Need-same-length-2 Inv-loop μ-loop
-same-length-2 c = search needs
-
-returns-2 : tie.Need-returns-2 Inv-loop μ-loop
-returns-2 c = search rules-done
+loop-again c = search (rules-more, c .before .before .before .before .before .before .before .before .before .before .before .before .loop .inv)
 
 pub read-rules-spec : {M : Type 1} → statement M
 read-rules-spec =
@@ -82,23 +86,25 @@ read-rules-spec =
     (tie.spec
     Inv-loop
     μ-loop
-    shared-slice-read-ahead
     loop-holds
-    read-rule-requires
-    enum-known-number
+    end-of-requires
+    read-expected-requires
+    sub-left
+    sub-left-2
     same-length
     returns
+    read-rule-requires
+    enum-known-number
+    same-length-2
+    returns-2
     enum-known-node
-    mul-index
     add-index
+    mul-index
     add-index-2
+    add-index-3
     mul-index-2
     slice-write-index
-    mul-ahead
-    mul-ahead-2
-    shared-slice-read-ahead-2
-    sub-left
+    add-row
+    sub-left-3
     loop-less
-    loop-again
-    same-length-2
-    returns-2)
+    loop-again)

@@ -1,9 +1,9 @@
 -- Each return is one way that ranks or conditions can end.
 -- Rests on the laws of a part taken after another.
 use borrow.Author.Needs.{needs}
-use Rattle.policy_reader.proofs.Reader.{of-fields}
-use Rattle.policy_reader.proofs.read_fields.Statement.{statement}
-use Rattle.policy_reader.proofs.read_fields.Tie as tie
+use Rattle.rule_reader.proofs.Reader.{of-fields}
+use Rattle.rule_reader.proofs.read_fields.Statement.{statement}
+use Rattle.rule_reader.proofs.read_fields.Tie as tie
 
 rank-count-requires : tie.Need-rank-count-requires
 rank-count-requires c κs = search needs

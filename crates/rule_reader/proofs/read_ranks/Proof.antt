@@ -4,9 +4,9 @@ use borrow.Author.Needs.{needs}
 use mathlib.Core.Path.{_≡_}
 use Rattle.fields.specs.Answers.{stepOf}
 use Rattle.policies.specs.Policies.{ranks}
-use Rattle.policy_reader.proofs.Reader.{ranks-bad, ranks-more, ranks-done}
-use Rattle.policy_reader.proofs.read_ranks.Statement.{statement}
-use Rattle.policy_reader.proofs.read_ranks.Tie as tie
+use Rattle.rule_reader.proofs.Reader.{ranks-bad, ranks-more, ranks-done}
+use Rattle.rule_reader.proofs.read_ranks.Statement.{statement}
+use Rattle.rule_reader.proofs.read_ranks.Tie as tie
 
 abbrev Inv-loop : tie.InvT-loop
 Inv-loop b k from left₀ at₀ left at = stepOf (ranks b left at) ≡ stepOf (ranks b k from)

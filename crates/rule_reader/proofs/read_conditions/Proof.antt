@@ -7,9 +7,9 @@ use lib.ListN.{drop}
 use Rattle.fields.specs.Answers.{stepOf}
 use Rattle.schema.specs.Schema.{schemaOf, nodeAt}
 use Rattle.policies.specs.Policies.{conditions}
-use Rattle.policy_reader.proofs.Reader.{conditions-bad, conditions-more, conditions-done}
-use Rattle.policy_reader.proofs.read_conditions.Statement.{statement}
-use Rattle.policy_reader.proofs.read_conditions.Tie as tie
+use Rattle.rule_reader.proofs.Reader.{conditions-bad, conditions-more, conditions-done}
+use Rattle.rule_reader.proofs.read_conditions.Statement.{statement}
+use Rattle.rule_reader.proofs.read_conditions.Tie as tie
 
 abbrev Inv-loop : tie.InvT-loop
 Inv-loop schema table n b from v k₀ at₀ k at = stepOf (conditions b (drop k (nodeAt (schemaOf schema) n .variables)) at) ≡ stepOf (conditions b (nodeAt (schemaOf schema) n .variables) from)

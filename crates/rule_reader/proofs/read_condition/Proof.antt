@@ -1,9 +1,9 @@
 -- Each return is one way that a condition of either kind can end.
 -- Rests on the laws of a condition by the kind of its variable.
 use borrow.Author.Needs.{needs}
-use Rattle.policy_reader.proofs.Reader.{of-condition}
-use Rattle.policy_reader.proofs.read_condition.Statement.{statement}
-use Rattle.policy_reader.proofs.read_condition.Tie as tie
+use Rattle.rule_reader.proofs.Reader.{of-condition}
+use Rattle.rule_reader.proofs.read_condition.Statement.{statement}
+use Rattle.rule_reader.proofs.read_condition.Tie as tie
 
 read-u32-requires : tie.Need-read-u32-requires
 read-u32-requires c κs = search needs
