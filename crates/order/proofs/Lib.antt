@@ -1,3 +1,4 @@
 pub mod Rows
 pub mod Best
+pub mod Keys
 pub mod Successors

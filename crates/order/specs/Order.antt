@@ -1,5 +1,5 @@
 -- Which successor of a node comes first, from their ranks alone (01, 'The order').
-use Prim.Native.Nat.{ℕ, zero, suc, _+_, _*_, _≤_, _<_}
+use Prim.Native.Nat.{ℕ, zero, suc, _+_, _*_, _/_, _%_, _≤_, _<_}
 use mathlib.Core.Path.{_≡_}
 use mathlib.Core.Bool.{Bool, true, cond, not, _&&_, _||_}
 use mathlib.Core.List.{List, [], _∷_}
@@ -53,6 +53,24 @@ pub record First (t : List ℕ) (rows : ℕ) (set : List ℕ) (k r : ℕ) : Type
   pub below : r < 8 → r < k
   pub in-set : r < 8 → inSet set r ≡ true
   pub unbeaten : r < 8 → (c : ℕ) → c < k → inSet set c ≡ true → betterIn t rows c r ≡ true → ⊥
+
+-- column k's key by the first row: its rank, then its number
+abbrev pub keyIn : List ℕ → ℕ → ℕ
+keyIn t k = 8 * getD t k 0 + k
+
+-- r is the key of column k with this byte of the set and this rank; 2048, more than any key, where it is not in the set
+pub record Keyed (byte rank k r : ℕ) : Type 0 where
+  pub inside : byte ≡ 1 → r ≡ 8 * rank + k
+  pub outside : (byte ≡ 1 → ⊥) → r ≡ 2048
+
+-- a is the least key of those of the first k columns that are in the set, b the second least; 2048 for none
+pub record TwoLeast (t set : List ℕ) (k a b : ℕ) : Type 0 where
+  pub order : a ≤ b
+  pub most : b ≤ 2048
+  pub below : a < 2048 → a % 8 < k
+  pub in-set : a < 2048 → inSet set (a % 8) ≡ true
+  pub ranked : a < 2048 → getD t (a % 8) 0 ≡ a / 8
+  pub others : (c : ℕ) → c < k → inSet set c ≡ true → (keyIn t c ≡ a → ⊥) → b ≤ keyIn t c
 
 -- the first k columns of kept are those of the set that no row forbids
 pub record Kept (t : List ℕ) (rows : ℕ) (set : List ℕ) (k : ℕ) (kept : List ℕ) : Type 0 where

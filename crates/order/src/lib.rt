@@ -1,12 +1,12 @@
 // A node's successors by column: a successor's column, whether all are in a set, and the pick among them, which takes
 // their ranks and the set of those that can be met.
 ghost use mathlib.Core.Path.{_≡_};
-ghost use Prim.Native.Nat.{_+_, _*_, _<_, _≤_};
+ghost use Prim.Native.Nat.{_+_, _*_, _<_, _≤_, min, max};
 ghost use lib.ListN.{length};
 ghost use Rattle.schema.specs.Schema.{schemaOf, nodeAt};
 ghost use Rattle.schema.specs.Table.{NodeIn, AtMost};
 ghost use Rattle.model.specs.Satisfaction.{columnOf, every};
-ghost use Rattle.order.specs.Order.{inSet, betterIn, allowedIn, over, First, Kept, Picked};
+ghost use Rattle.order.specs.Order.{inSet, betterIn, allowedIn, over, Keyed, TwoLeast, First, Kept, Picked};
 
 // The column of x among node n's successors, their number where it is none of them.
 pub fn column_of(schema: &[u8], table: &[usize], n: usize, x: usize) -> usize
@@ -114,6 +114,70 @@ fn first_in(ranks: &[u8; 128], rows: usize, columns: usize, set: &[u8; 8]) -> us
     x
 }
 
+// The lesser of two numbers, and the greater.
+fn lesser(a: usize, b: usize) -> usize
+    ensures { λ r. ⌜ r ≡ min a b ⌝ }
+{
+    if a < b { a } else { b }
+}
+
+fn greater(a: usize, b: usize) -> usize
+    ensures { λ r. ⌜ r ≡ max a b ⌝ }
+{
+    if a < b { b } else { a }
+}
+
+// Column k's key, which orders by rank and then by number; 2048, more than any key, where it is not in the set.
+fn key_of(in_set: u8, rank: u8, k: usize) -> usize
+    requires { ⌜ k < 8 ⌝ }
+    ensures { λ r. ⌜ Keyed in_set rank k r ⌝ }
+{
+    if in_set == 1 {
+        8 * (rank as usize) + k
+    } else {
+        2048
+    }
+}
+
+// The least of the columns' keys, and the second least.
+struct Least {
+    least: usize,
+    second: usize,
+}
+
+// The least and the second least of the columns' keys by the first row. No branch depends on the ranks or on the set.
+fn two_least(ranks: &[u8; 128], columns: usize, set: &[u8; 8]) -> Least
+    requires { ⌜ columns ≤ 8 ⌝ }
+    ensures { λ r. ⌜ TwoLeast (now (ranks .entry)) (now (set .entry)) columns (r .least) (r .second) ⌝ }
+{
+    let mut least: usize = 2048;
+    let mut second: usize = 2048;
+    let mut k: usize = 0;
+    while k < columns {
+        let key = key_of(set[k], ranks[k], k);
+        second = lesser(second, greater(least, key));
+        least = lesser(least, key);
+        k += 1;
+    }
+    Least { least, second }
+}
+
+// The column that comes first in a set, 8 if there is none: as a rule the first row decides.
+fn first_of(ranks: &[u8; 128], rows: usize, columns: usize, set: &[u8; 8]) -> usize
+    requires { ⌜ rows ≤ 16 ⌝ }
+    requires { ⌜ columns ≤ 8 ⌝ }
+    ensures { λ r. ⌜ First (now (ranks .entry)) rows (now (set .entry)) columns r ⌝ }
+{
+    if 0 < rows {
+        let keys = two_least(ranks, columns, set);
+        let least = keys.least;
+        if least / 8 < keys.second / 8 {
+            return least % 8;
+        }
+    }
+    first_in(ranks, rows, columns, set)
+}
+
 // The columns of a set that no row forbids.
 fn keep_allowed(ranks: &[u8; 128], rows: usize, columns: usize, set: &[u8; 8], kept: &mut [u8; 8])
     requires { ⌜ rows ≤ 16 ⌝ }
@@ -140,14 +204,14 @@ pub fn pick(ranks: &[u8; 128], rows: usize, columns: usize, set: &[u8; 8]) -> us
     requires { ⌜ columns ≤ 8 ⌝ }
     ensures { λ r. ⌜ Picked (now (ranks .entry)) rows (now (set .entry)) columns r ⌝ }
 {
-    let x = first_in(ranks, rows, columns, set);
+    let x = first_of(ranks, rows, columns, set);
     if x < 8 {
         if is_allowed(ranks, rows, x) {
             return x;
         }
         let mut kept = [0u8; 8];
         keep_allowed(ranks, rows, columns, set, &mut kept);
-        return first_in(ranks, rows, columns, &kept);
+        return first_of(ranks, rows, columns, &kept);
     }
     x
 }

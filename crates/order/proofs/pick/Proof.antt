@@ -5,8 +5,8 @@ use borrow.Author.Needs.{needs}
 use Rattle.order.proofs.pick.Statement.{statement}
 use Rattle.order.proofs.pick.Tie as tie
 
-first-in-requires : tie.Need-first-in-requires
-first-in-requires c κs = search needs
+first-of-requires : tie.Need-first-of-requires
+first-of-requires c κs = search needs
 
 is-allowed-requires : tie.Need-is-allowed-requires
 is-allowed-requires c κs = search needs
@@ -17,8 +17,8 @@ returns c = search picked-first
 keep-allowed-requires : tie.Need-keep-allowed-requires
 keep-allowed-requires c κs = search needs
 
-first-in-requires-2 : tie.Need-first-in-requires-2
-first-in-requires-2 c κs = search needs
+first-of-requires-2 : tie.Need-first-of-requires-2
+first-of-requires-2 c κs = search needs
 
 returns-2 : tie.Need-returns-2
 returns-2 c = search picked-kept
@@ -30,10 +30,10 @@ pub pick-spec : {M : Type 1} → statement M
 pick-spec =
     tie.close
     (tie.spec
-    first-in-requires
+    first-of-requires
     is-allowed-requires
     returns
     keep-allowed-requires
-    first-in-requires-2
+    first-of-requires-2
     returns-2
     returns-3)
