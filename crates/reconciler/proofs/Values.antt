@@ -17,95 +17,70 @@ use lib.Seq.{getD-set-same, getD-set-other}
 use lib.IntN.{ℤ, pos}
 use lib.Signed.{leZ, mag}
 use mir.Syntax.{w32}
-use mir.Val.{toZ, ofZ}
+use mir.Val.{toZ, ofZ, SFits}
 use mir.ValLaws.{toZ-ofZ}
-use Rattle.fields.specs.Reading.{signed}
+use Rattle.fields.specs.Writing.{unsigned}
 use Rattle.fields.proofs.Tests.{never}
 use Rattle.numbers.specs.Lowest.{Lowest}
 use Rattle.schema.specs.Schema.{Node, schemaOf, nodeAt, noVariable, isNumber}
 use Rattle.schema.specs.Table.{NodeIn, AtMost}
 use Rattle.schema.specs.declared.Variable.{Variable}
 use Rattle.schema.specs.declared.Variable.the-variants.{Number, Listed}
-use Rattle.policies.specs.Policies.{mask}
 use Rattle.instances.specs.File.{valueOf}
 use Rattle.instances.specs.Plan.{valuesFrom, BitsRoom}
 use Rattle.model.specs.Reconciling.{isSome, least, leastEach, withFirst}
 use Rattle.conditions.specs.Held.{conditionIn, conditionsIn}
 use Rattle.conditions.specs.declared.Conditions.{Conditions}
-use Rattle.reconciler.specs.Plan.{leftIn, LeftIs, LeastIn}
+use Rattle.reconciler.specs.Plan.{leftOf, LeastIn}
 use Rattle.reconciler.specs.declared.Left.{Left}
 use Rattle.reconciler.specs.declared.Left.the-variants.{Value, Nothing}
 
--- ---- one place
+-- ---- one variable
 
-module _ (c : Conditions) (k : ℕ) {number : Bool} where
-  pub left-number : {u : ℕ} → number ≡ true → mag (getD (c .lo) k (pos 0)) < 2 ^ 31 → mag (getD (c .hi) k (pos 0)) < 2 ^ 31
-      → leZ (toZ w32 (ofZ w32 (getD (c .lo) k (pos 0)))) (toZ w32 (ofZ w32 (getD (c .hi) k (pos 0)))) ≡ true
-      → u ≡ ofZ w32 (toZ w32 (ofZ w32 (getD (c .lo) k (pos 0)))) → LeftIs c k number (Value u)
-  unfolding leftIn
-  left-number {u} n fl fh t e =
-      let a = toZ-ofZ w32 (getD (c .lo) k (pos 0)) (record { sfits = fl }) in
-      let b = toZ-ofZ w32 (getD (c .hi) k (pos 0)) (record { sfits = fh }) in
-      let z : leZ (getD (c .lo) k (pos 0)) (getD (c .hi) k (pos 0)) ≡ true = sym (ap₂ leZ a b) ∙ t in
-      record { is = rw (n, z) (ap Value (e ∙ ap (ofZ w32) a)); back = λ _. a }
+module _ (lo hi : ℤ) (m : ℕ) {number : Bool} where
+  pub left-number : {u : ℕ} → number ≡ true → SFits w32 lo → SFits w32 hi → leZ (toZ w32 (ofZ w32 lo)) (toZ w32 (ofZ w32 hi)) ≡ true → u ≡ unsigned (toZ w32 (ofZ w32 lo))
+      → Value u ≡ leftOf lo hi m number
+  unfolding leftOf
+  left-number n fl fh t e =
+      let a = toZ-ofZ w32 lo fl in
+      let z : leZ lo hi ≡ true = sym (ap₂ leZ a (toZ-ofZ w32 hi fh)) ∙ t in
+      rw (n, z) (ap Value (e ∙ ap unsigned a))
 
-  pub left-none : number ≡ true → mag (getD (c .lo) k (pos 0)) < 2 ^ 31 → mag (getD (c .hi) k (pos 0)) < 2 ^ 31
-      → leZ (toZ w32 (ofZ w32 (getD (c .lo) k (pos 0)))) (toZ w32 (ofZ w32 (getD (c .hi) k (pos 0)))) ≡ false → LeftIs c k number Nothing
-  unfolding leftIn
+  pub left-none : number ≡ true → SFits w32 lo → SFits w32 hi → leZ (toZ w32 (ofZ w32 lo)) (toZ w32 (ofZ w32 hi)) ≡ false → Nothing ≡ leftOf lo hi m number
+  unfolding leftOf
   left-none n fl fh t =
-      let a = toZ-ofZ w32 (getD (c .lo) k (pos 0)) (record { sfits = fl }) in
-      let b = toZ-ofZ w32 (getD (c .hi) k (pos 0)) (record { sfits = fh }) in
-      let z : leZ (getD (c .lo) k (pos 0)) (getD (c .hi) k (pos 0)) ≡ false = sym (ap₂ leZ a b) ∙ t in
-      record { is = rw (n, z); back = λ _. a }
+      let z : leZ lo hi ≡ false = sym (ap₂ leZ (toZ-ofZ w32 lo fl) (toZ-ofZ w32 hi fh)) ∙ t in
+      rw (n, z)
 
-  pub left-empty : number ≡ false → getD (c .mask) k 0 ≡ 0 → LeftIs c k number Nothing
-  unfolding leftIn
-  left-empty n e = record { is = rw (n, eq-eqb (getD (c .mask) k 0) 0 e); back = λ t. never (sym n ∙ t) }
+  pub left-empty : number ≡ false → m ≡ 0 → Nothing ≡ leftOf lo hi m number
+  unfolding leftOf
+  left-empty n e = rw (n, eq-eqb m 0 e)
 
-  pub left-mask : {r : ℕ} → number ≡ false → (getD (c .mask) k 0 ≡ 0 → ⊥) → Lowest 32 (getD (c .mask) k 0) r → LeftIs c k number (Value r)
-  unfolding leftIn
-  left-mask n e l = record { is = rw (n, ne-eqb (getD (c .mask) k 0) 0 e) (ap Value (l .is)); back = λ t. never (sym n ∙ t) }
+  pub left-mask : {r : ℕ} → number ≡ false → (m ≡ 0 → ⊥) → Lowest 32 m r → Value r ≡ leftOf lo hi m number
+  unfolding leftOf
+  left-mask n e l = rw (n, ne-eqb m 0 e) (ap Value (l .is))
 
--- what it says of the model's least value
-module _ (c : Conditions) (v : Variable) (k : ℕ) {number : Bool} {r : Left} where
-  value-is : number ≡ isNumber v → LeftIs c k number r → {u : ℕ} → r ≡ Value u → least (conditionIn c v k) ≡ some (valueOf v u)
-  unfolding leftIn least conditionIn valueOf
-  value-is n w {u} e = go v n
-    where
-      go : (v : Variable) → number ≡ isNumber v → least (conditionIn c v k) ≡ some (valueOf v u)
-      go (Number lo hi) n =
-          let z : cond (leZ (getD (c .lo) k (pos 0)) (getD (c .hi) k (pos 0))) (Value (ofZ w32 (getD (c .lo) k (pos 0)))) Nothing ≡ Value u = sym (ap (leftIn c k) n) ∙ sym (w .is) ∙ e in
-          test (leZ (getD (c .lo) k (pos 0)) (getD (c .hi) k (pos 0))) z (w .back n)
-        where
-          test : (t : Bool) → cond t (Value (ofZ w32 (getD (c .lo) k (pos 0)))) Nothing ≡ Value u → signed (ofZ w32 (getD (c .lo) k (pos 0))) ≡ getD (c .lo) k (pos 0)
-              → cond t (some (getD (c .lo) k (pos 0))) none ≡ some (signed u)
-          test true z b = let y : ofZ w32 (getD (c .lo) k (pos 0)) ≡ u = cc in ap {B = Option ℤ} some (sym b ∙ ap signed y)
-          test false z b = absurd (let y : _≡_ {A = ℕ} 0 1 = cc in omega arith)
-      go (Listed size) n =
-          let z : cond (eqb (getD (c .mask) k 0) 0) Nothing (Value (trailingZeros 32 (getD (c .mask) k 0))) ≡ Value u = sym (ap (leftIn c k) n) ∙ sym (w .is) ∙ e in
-          test (eqb (getD (c .mask) k 0) 0) z
-        where
-          test : (t : Bool) → cond t Nothing (Value (trailingZeros 32 (getD (c .mask) k 0))) ≡ Value u
-              → cond t none (some (pos (trailingZeros 32 (getD (c .mask) k 0)))) ≡ some (pos u)
-          test true z = absurd (let y : _≡_ {A = ℕ} 0 1 = cc in omega arith)
-          test false z = let y : trailingZeros 32 (getD (c .mask) k 0) ≡ u = cc in ap {B = Option ℤ} (λ (x : ℕ). some (pos x)) y
+-- the value of a variable that is left
+unfoldable valueIn : Variable → Left → Option ℤ
+valueIn v (Value u) = some (valueOf v u)
+valueIn v Nothing = none
 
-  nothing-is : number ≡ isNumber v → LeftIs c k number r → r ≡ Nothing → least (conditionIn c v k) ≡ none
-  unfolding leftIn least conditionIn
-  nothing-is n w e = go v n
-    where
-      go : (v : Variable) → number ≡ isNumber v → least (conditionIn c v k) ≡ none
-      go (Number lo hi) n = test (leZ (getD (c .lo) k (pos 0)) (getD (c .hi) k (pos 0))) (sym (ap (leftIn c k) n) ∙ sym (w .is) ∙ e)
-        where
-          test : (t : Bool) → cond t (Value (ofZ w32 (getD (c .lo) k (pos 0)))) Nothing ≡ Nothing → cond t (some (getD (c .lo) k (pos 0))) none ≡ none
-          test true z = absurd (let y : _≡_ {A = ℕ} 0 1 = cc in omega arith)
-          test false z = refl
-      go (Listed size) n = test (eqb (getD (c .mask) k 0) 0) (sym (ap (leftIn c k) n) ∙ sym (w .is) ∙ e)
-        where
-          test : (t : Bool) → cond t Nothing (Value (trailingZeros 32 (getD (c .mask) k 0))) ≡ Nothing
-              → cond t none (some (pos (trailingZeros 32 (getD (c .mask) k 0)))) ≡ none
-          test true z = refl
-          test false z = absurd (let y : _≡_ {A = ℕ} 0 1 = cc in omega arith)
+-- it is the model's least one
+left-least : (c : Conditions) (v : Variable) (k : ℕ) {number : Bool} → SFits w32 (getD (c .lo) k (pos 0)) → SFits w32 (getD (c .hi) k (pos 0)) → number ≡ isNumber v
+    → least (conditionIn c v k) ≡ valueIn v (leftOf (toZ w32 (ofZ w32 (getD (c .lo) k (pos 0)))) (toZ w32 (ofZ w32 (getD (c .hi) k (pos 0)))) (getD (c .mask) k 0) number)
+unfolding leftOf least conditionIn valueOf valueIn
+left-least c (Number a b) k fl fh n =
+    let x = toZ-ofZ w32 (getD (c .lo) k (pos 0)) fl in
+    rw (n, x, toZ-ofZ w32 (getD (c .hi) k (pos 0)) fh) (test (getD (c .lo) k (pos 0)) (leZ (getD (c .lo) k (pos 0)) (getD (c .hi) k (pos 0))) x)
+  where
+    test : (lo : ℤ) (t : Bool) → toZ w32 (ofZ w32 lo) ≡ lo → cond t (some lo) none ≡ valueIn (Number a b) (cond t (Value (unsigned lo)) Nothing)
+    test lo true x = ap {B = Option ℤ} some (sym x)
+    test lo false x = refl
+left-least c (Listed size) k fl fh n = rw n (test (getD (c .mask) k 0) (eqb (getD (c .mask) k 0) 0))
+  where
+    test : (m : ℕ) (t : Bool) → cond t none (some (pos (trailingZeros 32 m))) ≡ valueIn (Listed size) (cond t Nothing (Value (trailingZeros 32 m)))
+    test m true = refl
+    test m false = refl
 
 -- ---- a node's variables
 
@@ -146,14 +121,21 @@ pub finding-none : (g : List Node) (n : ℕ) (c : Conditions) (t : List ℕ) →
 finding-none g n c t = record { upto = omega arith; so-far = λ i h. absurd (omega arith); others = λ i h. refl; long = refl }
 
 module _ (s table : List ℕ) (n : ℕ) (c : Conditions) (t₀ : List ℕ) (k : ℕ) (t : List ℕ) {v : ℕ} {b : Bool} {r : Left} (w : Finding (schemaOf s) n c t₀ k t) (h : NodeIn s table n)
-    (m : AtMost 4 (length (nodeAt (schemaOf s) n .variables)) v) (l : k < v) (e : b ≡ isNumber (getD (nodeAt (schemaOf s) n .variables) k noVariable)) (d : LeftIs c k b r) where
+    (m : AtMost 4 (length (nodeAt (schemaOf s) n .variables)) v) (l : k < v) (e : b ≡ isNumber (getD (nodeAt (schemaOf s) n .variables) k noVariable))
+    (fl : mag (getD (c .lo) k (pos 0)) < 2 ^ 31) (fh : mag (getD (c .hi) k (pos 0)) < 2 ^ 31)
+    (d : r ≡ leftOf (toZ w32 (ofZ w32 (getD (c .lo) k (pos 0)))) (toZ w32 (ofZ w32 (getD (c .hi) k (pos 0)))) (getD (c .mask) k 0) b) where
+  left-here : least (conditionIn c (getD (nodeAt (schemaOf s) n .variables) k noVariable) k) ≡ valueIn (getD (nodeAt (schemaOf s) n .variables) k noVariable) r
+  left-here = left-least c (getD (nodeAt (schemaOf s) n .variables) k noVariable) k (record { sfits = fl }) (record { sfits = fh }) e ∙ ap (valueIn (getD (nodeAt (schemaOf s) n .variables) k noVariable)) (sym d)
+
   pub finding-stop : r ≡ Nothing → LeastIn (schemaOf s) n c t₀ t false
+  unfolding valueIn
   finding-stop z =
       let q = each-none c 0 (nodeAt (schemaOf s) n .variables) k (omega (arith, m .is))
-      (ap (λ (i : ℕ). least (conditionIn c (getD (nodeAt (schemaOf s) n .variables) k noVariable) i)) (zero-add k) ∙ nothing-is c (getD (nodeAt (schemaOf s) n .variables) k noVariable) k e d z) in
+      (ap (λ (i : ℕ). least (conditionIn c (getD (nodeAt (schemaOf s) n .variables) k noVariable) i)) (zero-add k) ∙ left-here ∙ ap (valueIn (getD (nodeAt (schemaOf s) n .variables) k noVariable)) z) in
       record { found = sym (ap isSome q); values = λ y. never y; others = w .others; long = w .long }
 
   pub finding-more : {u : ℕ} → r ≡ Value u → BitsRoom s t₀ → Finding (schemaOf s) n c t₀ (k + 1) (set t (4 * n + k) u)
+  unfolding valueIn
   finding-more {u} z y =
       let q = m .most in
       record {
@@ -174,7 +156,7 @@ module _ (s table : List ℕ) (n : ℕ) (c : Conditions) (t₀ : List ℕ) (k : 
       one i a (no x) =
           let j : i ≡ k = omega arith in
           let q = m .most in
-          rw j (value-is c (getD (nodeAt (schemaOf s) n .variables) k noVariable) k e d z
+          rw j (left-here ∙ ap (valueIn (getD (nodeAt (schemaOf s) n .variables) k noVariable)) z
           ∙ ap {B = Option ℤ} (λ (j : ℕ). some (valueOf (getD (nodeAt (schemaOf s) n .variables) k noVariable) j)) (sym (getD-set-same t (4 * n + k) u 0 (omega (arith, w .long, y .long, h .below)))))
 
 pub finding-place : (s table : List ℕ) (n : ℕ) (c : Conditions) (t₀ : List ℕ) (k : ℕ) (t : List ℕ) {v : ℕ} → Finding (schemaOf s) n c t₀ k t → NodeIn s table n → AtMost 4 (length (nodeAt (schemaOf s) n .variables)) v → k < v

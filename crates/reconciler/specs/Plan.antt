@@ -9,9 +9,8 @@ use mathlib.Core.Option.{Option, none, some, Option·getD}
 use lib.ListN.{length, getD}
 use lib.Dec.{eqb, ltb}
 use lib.Count.{trailingZeros}
-use lib.IntN.{pos}
+use lib.IntN.{ℤ}
 use lib.Signed.{leZ}
-use Rattle.fields.specs.Reading.{signed}
 use Rattle.fields.specs.Writing.{unsigned}
 use Rattle.schema.specs.Schema.{Node, schemaOf, nodeAt}
 use Rattle.policies.specs.Policies.{Policy, rankOf, rankCount, policiesOf, policyAt}
@@ -27,14 +26,10 @@ use Rattle.reconciler.specs.declared.Left.the-variants.{Value, Nothing}
 use Rattle.reconciler.specs.declared.Plan.{Plan}
 use Rattle.reconciler.specs.declared.Plan.the-variants.{Unmet, Met, Take}
 
--- the bits of the least value left at place k, of a number or of a listed variable
-unfoldable pub leftIn : Conditions → ℕ → Bool → Left
-leftIn c k true = cond (leZ (getD (c .lo) k (pos 0)) (getD (c .hi) k (pos 0))) (Value (unsigned (getD (c .lo) k (pos 0)))) Nothing
-leftIn c k false = cond (eqb (getD (c .mask) k 0) 0) Nothing (Value (trailingZeros 32 (getD (c .mask) k 0)))
-
-pub record LeftIs (c : Conditions) (k : ℕ) (number : Bool) (r : Left) : Type 0 where
-  pub is : r ≡ leftIn c k number
-  pub back : number ≡ true → signed (unsigned (getD (c .lo) k (pos 0))) ≡ getD (c .lo) k (pos 0)
+-- the bits of the least value left, of a number's range or of a listed one's mask
+unfoldable pub leftOf : ℤ → ℤ → ℕ → Bool → Left
+leftOf lo hi m true = cond (leZ lo hi) (Value (unsigned lo)) Nothing
+leftOf lo hi m false = cond (eqb m 0) Nothing (Value (trailingZeros 32 m))
 
 -- r tells whether each of node n's variables has a value left, and then its four places have their bits
 pub record LeastIn (g : List Node) (n : ℕ) (c : Conditions) (t₀ t : List ℕ) (r : Bool) : Type 0 where

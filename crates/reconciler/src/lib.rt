@@ -14,7 +14,7 @@ ghost use Rattle.model.specs.Reconciling.{combined, reconciled};
 ghost use Rattle.conditions.specs.Held.{recordOf};
 ghost use Rattle.conditions.specs.Places.{SaidAt, Found};
 ghost use Rattle.calls.specs.Calls.{given, reconcilingUnder, reconciling};
-ghost use Rattle.reconciler.specs.Plan.{LeftIs, LeastIn, Columns, Ranked, RowCopied, RowFilled, SuccessorsIn, Chosen, NodePlanned, Planned, plannedIn};
+ghost use Rattle.reconciler.specs.Plan.{leftOf, LeastIn, Columns, Ranked, RowCopied, RowFilled, SuccessorsIn, Chosen, NodePlanned, Planned, plannedIn};
 use conditions::Conditions;
 use fields::Answer;
 use fields::Step;
@@ -33,26 +33,23 @@ enum Plan {
     Take { successor: usize },
 }
 
-// The least value left at place k.
-fn left_in(c: Conditions, k: usize, number: bool) -> Left
-    requires { ⌜ k < 4 ⌝ }
-    ensures { λ r. ⌜ LeftIs c k number r ⌝ }
+// The least value left for a variable: of a number's range, or of a listed one's mask.
+fn left_of(lo: i32, hi: i32, mask: u32, number: bool) -> Left
+    ensures { λ r. ⌜ r ≡ leftOf lo hi mask number ⌝ }
 {
     if number {
-        let lo = c.lo[k];
-        if lo <= c.hi[k] {
+        if lo <= hi {
             return Left::Value {
                 bits: fields::to_unsigned(lo),
             };
         }
         return Left::Nothing;
     }
-    let m = c.mask[k];
-    if m == 0 {
+    if mask == 0 {
         return Left::Nothing;
     }
     Left::Value {
-        bits: numbers::least_value(m),
+        bits: numbers::least_value(mask),
     }
 }
 
@@ -65,7 +62,8 @@ fn least_values(schema: &[u8], table: &[usize], n: usize, c: Conditions, bits: &
     let v = nodes::variable_count(schema, table, n);
     let mut k: usize = 0;
     while k < v {
-        match left_in(c, k, nodes::is_number(schema, table, n, k)) {
+        let number = nodes::is_number(schema, table, n, k);
+        match left_of(c.lo[k], c.hi[k], c.mask[k], number) {
             Left::Nothing => {
                 return false;
             }

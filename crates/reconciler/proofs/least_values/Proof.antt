@@ -10,10 +10,10 @@ use Rattle.reconciler.proofs.least_values.Statement.{statement}
 use Rattle.reconciler.proofs.least_values.Tie as tie
 
 abbrev Inv-loop : tie.InvT-loop
-Inv-loop schema table n c bits₀ v k₀ bits k = Finding (schemaOf schema) n c bits₀ k bits
+Inv-loop schema table n bits₀ c v k₀ bits k = Finding (schemaOf schema) n c bits₀ k bits
 
 abbrev μ-loop : tie.MeasureT-loop
-μ-loop schema table n c bits₀ v k₀ bits k = v - k
+μ-loop schema table n bits₀ c v k₀ bits k = v - k
 
 variable-count-requires : tie.Need-variable-count-requires Inv-loop μ-loop
 variable-count-requires c κs = search needs
@@ -24,8 +24,26 @@ loop-holds c = search finding-none
 is-number-requires : tie.Need-is-number-requires Inv-loop μ-loop
 is-number-requires c κs = search needs
 
-left-in-requires : tie.Need-left-in-requires Inv-loop μ-loop
-left-in-requires c κs = search needs
+mul-left-of : tie.Need-mul-left-of Inv-loop μ-loop
+mul-left-of c = search needs
+
+element-copy-out-left-of : tie.Need-element-copy-out-left-of Inv-loop μ-loop
+element-copy-out-left-of c = search needs
+
+mul-left-of-2 : tie.Need-mul-left-of-2 Inv-loop μ-loop
+mul-left-of-2 c = search needs
+
+element-copy-out-left-of-2 : tie.Need-element-copy-out-left-of-2 Inv-loop μ-loop
+element-copy-out-left-of-2 c = search needs
+
+mul-left-of-3 : tie.Need-mul-left-of-3 Inv-loop μ-loop
+mul-left-of-3 c = search needs
+
+element-copy-out-left-of-3 : tie.Need-element-copy-out-left-of-3 Inv-loop μ-loop
+element-copy-out-left-of-3 c = search needs
+
+left-of-requires : tie.Need-left-of-requires Inv-loop μ-loop
+left-of-requires c κs = search needs
 
 enum-told : tie.Need-enum-told Inv-loop μ-loop
 enum-told c = search needs
@@ -58,7 +76,14 @@ loop-less : tie.Need-loop-less Inv-loop μ-loop
 loop-less c = search needs
 
 loop-again : tie.Need-loop-again Inv-loop μ-loop
-loop-again c = search finding-more
+loop-again c =
+    let found = c .before .before .before in
+    let place = found .before .before in
+    let turn = place .before .before in
+    let loop = turn .before .before in
+    let start = loop .before .before .before .before .before in
+    finding-more _ _ _ _ _ _ _ (loop .loop .inv) (start .pre .0) (loop .before .variable-count .ensures) (turn .before .loop-test .taken) (turn .is-number .ensures)
+    (place .before .left-of-arg .given) (place .left-of-arg2 .given) (found .left-of .ensures) (c .before .u .given .1) (start .pre .1)
 
 same-length-2 : tie.Need-same-length-2 Inv-loop μ-loop
 same-length-2 c = search needs
@@ -75,7 +100,13 @@ least-values-spec =
     variable-count-requires
     loop-holds
     is-number-requires
-    left-in-requires
+    mul-left-of
+    element-copy-out-left-of
+    mul-left-of-2
+    element-copy-out-left-of-2
+    mul-left-of-3
+    element-copy-out-left-of-3
+    left-of-requires
     enum-told
     same-length
     returns
