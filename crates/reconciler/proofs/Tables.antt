@@ -12,90 +12,60 @@ use lib.ListN.{length, getD, set, length-set}
 use lib.Seq.{getD-set-same, getD-set-other}
 use Rattle.schema.specs.Schema.{Node, schemaOf, nodeAt}
 use Rattle.schema.specs.Table.{SuccessorIs}
-use Rattle.policies.specs.Policies.{Rule, Policy, rankCount, rankOf, policiesOf, policyAt}
+use Rattle.policies.specs.Policies.{Rule, Policy, rankOf, policiesOf, policyAt}
 use Rattle.policies.specs.Pass.{forced}
 use Rattle.order.specs.Order.{rankIn, inSet}
 use Rattle.conditions.specs.Places.{SaidAt, Found}
-use Rattle.reconciler.specs.Plan.{Columns, Ranked, RowCopied, RowFilled, SuccessorsIn}
+use Rattle.reconciler.specs.Plan.{Columns, Ranked, zeros, bytesFrom, RowFilled, SuccessorsIn}
 
 -- ---- one row
 
-pub record Filling (q : Policy) (n j k : ℕ) (t₀ t : List ℕ) : Type 0 where
-  pub ranks : (i : ℕ) → i < k → rankIn t j i ≡ rankOf q n i
-  pub before : (i : ℕ) → i < 8 * j → getD t i 0 ≡ getD t₀ i 0
-  pub long : length t ≡ length t₀
+pub row-none : (f : ℕ → ℕ) (j : ℕ) (t : List ℕ) → RowFilled f j 0 t t
+row-none f j t = record { each = λ i h. absurd (omega arith); before = λ i h. refl; long = refl }
 
-pub filling-none : (q : Policy) (n j : ℕ) (t : List ℕ) → Filling q n j 0 t t
-filling-none q n j t = record { ranks = λ i h. absurd (omega arith); before = λ i h. refl; long = refl }
-
-pub filling-rank : (schema : List ℕ) (n k : ℕ) {columns : ℕ} → Columns schema n columns → k < columns → k < rankCount (nodeAt (schemaOf schema) n)
-filling-rank schema n k c h = omega (arith, c .ranked)
-
--- what the code takes from the file
-module _ (g : List Node) (s : List ℕ) (q : Policy) (n at k : ℕ) (w : SaidAt g s q n at) where
-  pub rank-nowhere : at ≡ 0 → 0 ≡ rankOf q n k
-  unfolding rankOf
-  rank-nowhere e = sym (ap (λ (x : Rule). getD (x .ranks) k 0) (w .silent e))
-
-  module _ (e : at ≡ 0 → ⊥) (h : k < rankCount (nodeAt g n)) where
-    pub rank-inside : at + k < length s
-    rank-inside = w .ranks e k h .0
-
-    pub rank-fits : length s < 2 ^ 64 → Fits w64 (at + k)
-    rank-fits m = record { fits = omega (arith, rank-inside) }
-
-    pub rank-there : getD s (at + k) 0 ≡ rankOf q n k
-    rank-there = w .ranks e k h .1
-
-pub filling-more : (schema : List ℕ) (q : Policy) (n j k : ℕ) (t₀ t : List ℕ) {columns r : ℕ} → Filling q n j k t₀ t → Columns schema n columns → k < columns → j < 16 → length t₀ ≡ 128
-    → r ≡ rankOf q n k → Filling q n j (k + 1) t₀ (set t (8 * j + k) r)
-filling-more schema q n j k t₀ t {columns} {r} w c h l m e =
-    record {
-      ranks = λ i a. one i a (decLt i k);
-      before = λ i a. getD-set-other t (8 * j + k) i r 0 (λ x. omega arith) ∙ w .before i a;
-      long = length-set t (8 * j + k) r ∙ w .long;
-    }
-  where
-    one : (i : ℕ) → i < k + 1 → Dec (i < k) → rankIn (set t (8 * j + k) r) j i ≡ rankOf q n i
-    one i a (yes x) = getD-set-other t (8 * j + k) (8 * j + i) r 0 (λ y. omega arith) ∙ w .ranks i x
-    one i a (no x) = let z : i ≡ k = omega arith in rw z (getD-set-same t (8 * j + k) r 0 (omega (arith, w .long, c .most)) ∙ e)
-
--- bytes of the file
-pub copied-none : (s : List ℕ) (at j : ℕ) (t : List ℕ) → RowCopied s at j 0 t t
-copied-none s at j t = record { each = λ i h. absurd (omega arith); before = λ i h. refl; long = refl }
-
-pub copied-more : (s : List ℕ) (at j k : ℕ) (t₀ t : List ℕ) → RowCopied s at j k t₀ t → k < 8 → j < 16 → length t₀ ≡ 128
-    → RowCopied s at j (k + 1) t₀ (set t (8 * j + k) (getD s (at + k) 0))
-copied-more s at j k t₀ t w h l m =
-    let r = getD s (at + k) 0 in
+pub row-more : (f : ℕ → ℕ) (j k : ℕ) (t₀ t : List ℕ) {r : ℕ} → RowFilled f j k t₀ t → k < 8 → j < 16 → length t₀ ≡ 128 → r ≡ f k → RowFilled f j (k + 1) t₀ (set t (8 * j + k) r)
+row-more f j k t₀ t {r} w h l m e =
     record {
       each = λ i a. one i a (decLt i k);
       before = λ i a. getD-set-other t (8 * j + k) i r 0 (λ x. omega arith) ∙ w .before i a;
       long = length-set t (8 * j + k) r ∙ w .long;
     }
   where
-    one : (i : ℕ) → i < k + 1 → Dec (i < k) → rankIn (set t (8 * j + k) (getD s (at + k) 0)) j i ≡ getD s (at + i) 0
-    one i a (yes x) = getD-set-other t (8 * j + k) (8 * j + i) (getD s (at + k) 0) 0 (λ y. omega arith) ∙ w .each i x
-    one i a (no x) = let z : i ≡ k = omega arith in rw z (getD-set-same t (8 * j + k) (getD s (at + k) 0) 0 (omega (arith, w .long)))
+    one : (i : ℕ) → i < k + 1 → Dec (i < k) → rankIn (set t (8 * j + k) r) j i ≡ f i
+    one i a (yes x) = getD-set-other t (8 * j + k) (8 * j + i) r 0 (λ y. omega arith) ∙ w .each i x
+    one i a (no x) = let z : i ≡ k = omega arith in rw z (getD-set-same t (8 * j + k) r 0 (omega (arith, w .long)) ∙ e)
 
-pub copied-done : (s : List ℕ) (at j k : ℕ) (t₀ t : List ℕ) → RowCopied s at j k t₀ t → 8 ≤ k → RowCopied s at j 8 t₀ t
-copied-done s at j k t₀ t w h = record { each = λ i a. w .each i (omega arith); before = w .before; long = w .long }
+pub row-done : (f : ℕ → ℕ) (j k m : ℕ) (t₀ t : List ℕ) → RowFilled f j k t₀ t → m ≤ k → RowFilled f j m t₀ t
+row-done f j k m t₀ t w h = record { each = λ i a. w .each i (omega arith); before = w .before; long = w .long }
 
--- eight bytes from where the policy speaks of the node have its ranks
-pub copied-filled : (schema s : List ℕ) (q : Policy) (n at j : ℕ) (t₀ t : List ℕ) {columns : ℕ} → SaidAt (schemaOf schema) s q n at → Columns schema n columns → 0 < at
-    → RowCopied s at j 8 t₀ t → RowFilled q n j columns t₀ t
-copied-filled schema s q n at j t₀ t w c h r =
-    record {
-      ranks = λ k l. r .each k (omega (arith, c .most)) ∙ w .ranks (λ z. omega arith) k (omega (arith, c .ranked)) .1;
-      before = r .before;
-      long = r .long;
-    }
+-- a row that has the same in the first places
+row-same : (f g : ℕ → ℕ) (j k m : ℕ) (t₀ t : List ℕ) → RowFilled f j k t₀ t → m ≤ k → ((i : ℕ) → i < m → f i ≡ g i) → RowFilled g j m t₀ t
+row-same f g j k m t₀ t w h e = record { each = λ i a. w .each i (omega arith) ∙ e i a; before = w .before; long = w .long }
+
+-- the ranks of a policy, by where it speaks of the node
+module _ (schema s : List ℕ) (q : Policy) (n at : ℕ) {columns : ℕ} (w : SaidAt (schemaOf schema) s q n at) (c : Columns schema n columns) where
+  pub row-silent : (j : ℕ) (t₀ t : List ℕ) → at ≡ 0 → RowFilled zeros j 8 t₀ t → RowFilled (rankOf q n) j columns t₀ t
+  unfolding rankOf
+  row-silent j t₀ t e r = row-same zeros (rankOf q n) j 8 columns t₀ t r (c .most) (λ i h. sym (ap (λ (x : Rule). getD (x .ranks) i 0) (w .silent e)))
+
+  module _ (e : at ≡ 0 → ⊥) where
+    rank-is : (k : ℕ) → k < columns → (at + k < length s) × (getD s (at + k) 0 ≡ rankOf q n k)
+    rank-is k h = w .ranks e k (omega (arith, c .ranked))
+
+    pub row-copied : (j : ℕ) (t₀ t : List ℕ) → RowFilled (bytesFrom s at) j 8 t₀ t → RowFilled (rankOf q n) j columns t₀ t
+    row-copied j t₀ t r = row-same (bytesFrom s at) (rankOf q n) j 8 columns t₀ t r (c .most) (λ i h. rank-is i h .1)
+
+    pub rank-inside : (k : ℕ) → k < columns → at + k < length s
+    rank-inside k h = rank-is k h .0
+
+    pub rank-fits : (k : ℕ) → k < columns → length s < 2 ^ 64 → Fits w64 (at + k)
+    rank-fits k h m = record { fits = omega (arith, rank-inside k h) }
+
+    pub row-next : (j k : ℕ) (t₀ t : List ℕ) → RowFilled (rankOf q n) j k t₀ t → k < columns → j < 16 → length t₀ ≡ 128 → RowFilled (rankOf q n) j (k + 1) t₀ (set t (8 * j + k) (getD s (at + k) 0))
+    row-next j k t₀ t r h l m = row-more (rankOf q n) j k t₀ t r (omega (arith, c .most)) l m (rank-is k h .1)
 
 pub said-inside : (g : List Node) (s : List ℕ) (q : Policy) (n at : ℕ) → SaidAt g s q n at → at ≤ length s
 said-inside g s q n at w = w .inside
-
-pub filling-done : (q : Policy) (n j k columns : ℕ) (t₀ t : List ℕ) → Filling q n j k t₀ t → columns ≤ k → RowFilled q n j columns t₀ t
-filling-done q n j k columns t₀ t w h = record { ranks = λ i a. w .ranks i (omega arith); before = w .before; long = w .long }
 
 -- ---- all rows
 
@@ -106,14 +76,14 @@ pub ranked-said : (schema p places : List ℕ) (a b n j : ℕ) {rows : ℕ} → 
     → SaidAt (schemaOf schema) p (policyAt (forced a b (policiesOf (schemaOf schema) p)) j) n (getD places j 0)
 ranked-said schema p places a b n j f h = f .each j h
 
-pub ranked-more : (ps : List Policy) (n j columns : ℕ) (t u : List ℕ) → Ranked ps n j columns t → RowFilled (policyAt ps j) n j columns t u → columns ≤ 8 → Ranked ps n (j + 1) columns u
+pub ranked-more : (ps : List Policy) (n j columns : ℕ) (t u : List ℕ) → Ranked ps n j columns t → RowFilled (rankOf (policyAt ps j) n) j columns t u → columns ≤ 8 → Ranked ps n (j + 1) columns u
 ranked-more ps n j columns t u w r m = record { ranks = λ i k x y. one i k x y (decLt i j); long = r .long ∙ w .long }
   where
     one : (i k : ℕ) → i < j + 1 → k < columns → Dec (i < j) → rankIn u i k ≡ rankOf (policyAt ps i) n k
     one i k x y (yes z) = r .before (8 * i + k) (omega arith) ∙ w .ranks i k z y
     one i k x y (no z) =
         let e : i ≡ j = omega arith in
-        rw e (r .ranks k y)
+        rw e (r .each k y)
 
 pub ranked-done : (ps : List Policy) (n j rows columns : ℕ) (t : List ℕ) → Ranked ps n j columns t → rows ≤ j → Ranked ps n rows columns t
 ranked-done ps n j rows columns t w h = record { ranks = λ i k x y. w .ranks i k (omega arith) y; long = w .long }

@@ -50,15 +50,16 @@ pub record Columns (schema : List ℕ) (n columns : ℕ) : Type 0 where
   pub ranked : columns ≡ rankCount (nodeAt (schemaOf schema) n)
   pub most : columns ≤ 8
 
--- row j has the first k bytes of s from a place on, and those before it stay
-pub record RowCopied (s : List ℕ) (at j k : ℕ) (t₀ t : List ℕ) : Type 0 where
-  pub each : (i : ℕ) → i < k → rankIn t j i ≡ getD s (at + i) 0
-  pub before : (i : ℕ) → i < 8 * j → getD t i 0 ≡ getD t₀ i 0
-  pub long : length t ≡ length t₀
+-- what a row may have: zeros, the bytes of s from a place on, or a policy's ranks
+abbrev pub zeros : ℕ → ℕ
+zeros i = 0
 
--- row j has what it shall have, and those before it stay
-pub record RowFilled (q : Policy) (n j columns : ℕ) (t₀ t : List ℕ) : Type 0 where
-  pub ranks : (k : ℕ) → k < columns → rankIn t j k ≡ rankOf q n k
+abbrev pub bytesFrom : List ℕ → ℕ → ℕ → ℕ
+bytesFrom s at i = getD s (at + i) 0
+
+-- the first k places of row j have what f says, and the rows before it stay
+pub record RowFilled (f : ℕ → ℕ) (j k : ℕ) (t₀ t : List ℕ) : Type 0 where
+  pub each : (i : ℕ) → i < k → rankIn t j i ≡ f i
   pub before : (i : ℕ) → i < 8 * j → getD t i 0 ≡ getD t₀ i 0
   pub long : length t ≡ length t₀
 

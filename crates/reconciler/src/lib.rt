@@ -2,10 +2,10 @@
 ghost use mathlib.Core.Path.{_≡_};
 ghost use Prim.Native.Nat.{_+_, _*_, _<_, _≤_};
 ghost use lib.ListN.{length};
-ghost use Rattle.schema.specs.Schema.{schemaOf, nodeAt};
+ghost use Rattle.schema.specs.Schema.{schemaOf};
 ghost use Rattle.fields.specs.Outcomes.{Did, placed};
 ghost use Rattle.schema.specs.Table.{NodeIn, Accepted, Tabled, Room, AtMost};
-ghost use Rattle.policies.specs.Policies.{policiesOf, policyAt, rankCount, rankOf};
+ghost use Rattle.policies.specs.Policies.{policiesOf, policyAt, rankOf};
 ghost use Rattle.policies.specs.Pass.{forced, InForce};
 ghost use Rattle.policies.specs.Index.{IndexIn, Indexed, IndexRoom, SchemaIn};
 ghost use Rattle.instances.specs.File.{encode};
@@ -14,7 +14,7 @@ ghost use Rattle.model.specs.Reconciling.{combined, reconciled};
 ghost use Rattle.conditions.specs.Held.{recordOf};
 ghost use Rattle.conditions.specs.Places.{SaidAt, Found};
 ghost use Rattle.calls.specs.Calls.{given, reconcilingUnder, reconciling};
-ghost use Rattle.reconciler.specs.Plan.{leftOf, LeastIn, Columns, Ranked, RowCopied, RowFilled, SuccessorsIn, Chosen, NodePlanned, Planned, plannedIn};
+ghost use Rattle.reconciler.specs.Plan.{leftOf, LeastIn, Columns, Ranked, zeros, bytesFrom, RowFilled, SuccessorsIn, Chosen, NodePlanned, Planned, plannedIn};
 use conditions::Conditions;
 use fields::Answer;
 use fields::Step;
@@ -100,16 +100,17 @@ fn fill_values(
     least_values(schema, table, n, c, bits)
 }
 
-// The rank of node n's successor k in policy j of those in force, which speaks of the node from a place on.
-fn rank_at(schema: &[u8], p: &[u8], a: u16, b: u16, j: usize, n: usize, at: usize, k: usize) -> u8
-    requires { ⌜ SaidAt (schemaOf (now schema)) (now p) (policyAt (forced a b (policiesOf (schemaOf (now schema)) (now p))) j) n at ⌝ }
-    requires { ⌜ k < rankCount (nodeAt (schemaOf (now schema)) n) ⌝ }
-    ensures { λ r. ⌜ r ≡ rankOf (policyAt (forced a b (policiesOf (schemaOf (now (schema .entry))) (now (p .entry)))) j) n k ⌝ }
+// Row j: eight zeros, the ranks of a policy that says nothing of the node.
+fn blank_row(j: usize, ranks: &mut [u8; 128])
+    requires { ⌜ j < 16 ⌝ }
+    requires { ⌜ length (now ranks) ≡ 128 ⌝ }
+    ensures { λ _. ⌜ RowFilled zeros j 8 (now (ranks .entry)) (now (ranks .exit)) ⌝ }
 {
-    if at == 0 {
-        return 0;
+    let mut k: usize = 0;
+    while k < 8 {
+        ranks[8 * j + k] = 0;
+        k += 1;
     }
-    p[at + k]
 }
 
 // Row j: the eight bytes from a place on.
@@ -117,7 +118,7 @@ fn copy_row(p: &[u8], at: usize, j: usize, ranks: &mut [u8; 128])
     requires { ⌜ at + 8 ≤ length (now p) ⌝ }
     requires { ⌜ j < 16 ⌝ }
     requires { ⌜ length (now ranks) ≡ 128 ⌝ }
-    ensures { λ _. ⌜ RowCopied (now (p .entry)) at j 8 (now (ranks .entry)) (now (ranks .exit)) ⌝ }
+    ensures { λ _. ⌜ RowFilled (bytesFrom (now (p .entry)) at) j 8 (now (ranks .entry)) (now (ranks .exit)) ⌝ }
 {
     let mut k: usize = 0;
     while k < 8 {
@@ -126,7 +127,8 @@ fn copy_row(p: &[u8], at: usize, j: usize, ranks: &mut [u8; 128])
     }
 }
 
-// Row j: the ranks of node n's successors in policy j of those in force; eight bytes at once, where there are so many.
+// Row j: the ranks of node n's successors in policy j of those in force, which speaks of the node from a place on; eight
+// bytes at once, where there are so many.
 fn gather_row(
     schema: &[u8],
     p: &[u8],
@@ -142,17 +144,19 @@ fn gather_row(
     requires { ⌜ Columns (now schema) n columns ⌝ }
     requires { ⌜ j < 16 ⌝ }
     requires { ⌜ length (now ranks) ≡ 128 ⌝ }
-    ensures { λ _. ⌜ RowFilled (policyAt (forced a b (policiesOf (schemaOf (now (schema .entry))) (now (p .entry)))) j) n j columns (now (ranks .entry)) (now (ranks .exit)) ⌝ }
+    ensures { λ _. ⌜ RowFilled (rankOf (policyAt (forced a b (policiesOf (schemaOf (now (schema .entry))) (now (p .entry)))) j) n) j columns (now (ranks .entry)) (now (ranks .exit)) ⌝ }
 {
-    if 0 < at {
-        if 8 <= p.len() - at {
-            copy_row(p, at, j, ranks);
-            return;
-        }
+    if at == 0 {
+        blank_row(j, ranks);
+        return;
+    }
+    if 8 <= p.len() - at {
+        copy_row(p, at, j, ranks);
+        return;
     }
     let mut k: usize = 0;
     while k < columns {
-        ranks[8 * j + k] = rank_at(schema, p, a, b, j, n, at, k);
+        ranks[8 * j + k] = p[at + k];
         k += 1;
     }
 }

@@ -1,20 +1,20 @@
 -- The bytes passed are in the row.
 -- Rests on the laws of one row, in Tables.
 use Prim.Native.Nat.{_-_}
-use Rattle.reconciler.specs.Plan.{RowCopied}
-use Rattle.reconciler.proofs.Tables.{copied-none, copied-more, copied-done}
+use Rattle.reconciler.specs.Plan.{bytesFrom, RowFilled}
+use Rattle.reconciler.proofs.Tables.{row-none, row-more, row-done}
 use borrow.Author.Needs.{needs}
 use Rattle.reconciler.proofs.copy_row.Statement.{statement}
 use Rattle.reconciler.proofs.copy_row.Tie as tie
 
 abbrev Inv-loop : tie.InvT-loop
-Inv-loop p at j ranks₀ k₀ ranks k = RowCopied p at j k ranks₀ ranks
+Inv-loop p at j ranks₀ k₀ ranks k = RowFilled (bytesFrom p at) j k ranks₀ ranks
 
 abbrev μ-loop : tie.MeasureT-loop
 μ-loop p at j ranks₀ k₀ ranks k = 8 - k
 
 loop-holds : tie.Need-loop-holds Inv-loop μ-loop
-loop-holds c = search copied-none
+loop-holds c = search row-none
 
 add-ranks : tie.Need-add-ranks Inv-loop μ-loop
 add-ranks c = search needs
@@ -38,10 +38,10 @@ loop-less : tie.Need-loop-less Inv-loop μ-loop
 loop-less c = search needs
 
 loop-again : tie.Need-loop-again Inv-loop μ-loop
-loop-again c = search copied-more
+loop-again c = search (row-more, needs)
 
 returns : tie.Need-returns Inv-loop μ-loop
-returns c = search copied-done
+returns c = search row-done
 
 pub copy-row-spec : {M : Type 1} → statement M
 copy-row-spec =

@@ -1,19 +1,26 @@
--- The columns passed have their ranks; eight bytes have them all.
+-- The columns passed have their ranks; zeros are those of a policy that says nothing, and eight bytes have them all.
 -- Rests on the laws of one row, in Tables.
 use Prim.Native.Nat.{_-_}
 use Rattle.schema.specs.Schema.{schemaOf}
-use Rattle.policies.specs.Policies.{policiesOf, policyAt}
+use Rattle.policies.specs.Policies.{policiesOf, policyAt, rankOf}
 use Rattle.policies.specs.Pass.{forced}
-use Rattle.reconciler.proofs.Tables.{Filling, filling-none, filling-rank, filling-more, filling-done, copied-filled, said-inside}
+use Rattle.reconciler.specs.Plan.{RowFilled}
+use Rattle.reconciler.proofs.Tables.{row-none, row-done, row-silent, row-copied, rank-inside, rank-fits, row-next, said-inside}
 use borrow.Author.Needs.{needs}
 use Rattle.reconciler.proofs.gather_row.Statement.{statement}
 use Rattle.reconciler.proofs.gather_row.Tie as tie
 
 abbrev Inv-loop : tie.InvT-loop
-Inv-loop schema p a b j n at columns ranks₀ k₀ ranks k = Filling (policyAt (forced a b (policiesOf (schemaOf schema) p)) j) n j k ranks₀ ranks
+Inv-loop schema p a b j n at columns ranks₀ k₀ ranks k = RowFilled (rankOf (policyAt (forced a b (policiesOf (schemaOf schema) p)) j) n) j k ranks₀ ranks
 
 abbrev μ-loop : tie.MeasureT-loop
 μ-loop schema p a b j n at columns ranks₀ k₀ ranks k = columns - k
+
+blank-row-requires : tie.Need-blank-row-requires Inv-loop μ-loop
+blank-row-requires c κs = search needs
+
+returns : tie.Need-returns Inv-loop μ-loop
+returns c = search row-silent
 
 sub-if2 : tie.Need-sub-if2 Inv-loop μ-loop
 sub-if2 c = search said-inside
@@ -21,20 +28,23 @@ sub-if2 c = search said-inside
 copy-row-requires : tie.Need-copy-row-requires Inv-loop μ-loop
 copy-row-requires c κs = search needs
 
-returns : tie.Need-returns Inv-loop μ-loop
-returns c = search copied-filled
+returns-2 : tie.Need-returns-2 Inv-loop μ-loop
+returns-2 c = search row-copied
 
 loop-holds : tie.Need-loop-holds Inv-loop μ-loop
-loop-holds c = search filling-none
+loop-holds c = search row-none
 
-rank-at-requires : tie.Need-rank-at-requires Inv-loop μ-loop
-rank-at-requires c κs = search (filling-rank, needs)
+add-ranks : tie.Need-add-ranks Inv-loop μ-loop
+add-ranks c = search (rank-fits, needs)
+
+shared-slice-read-ranks : tie.Need-shared-slice-read-ranks Inv-loop μ-loop
+shared-slice-read-ranks c = search rank-inside
 
 mul-ranks : tie.Need-mul-ranks Inv-loop μ-loop
 mul-ranks c = search needs
 
-add-ranks : tie.Need-add-ranks Inv-loop μ-loop
-add-ranks c = search needs
+add-ranks-2 : tie.Need-add-ranks-2 Inv-loop μ-loop
+add-ranks-2 c = search needs
 
 element-write-ranks : tie.Need-element-write-ranks Inv-loop μ-loop
 element-write-ranks c = search needs
@@ -46,10 +56,10 @@ loop-less : tie.Need-loop-less Inv-loop μ-loop
 loop-less c = search needs
 
 loop-again : tie.Need-loop-again Inv-loop μ-loop
-loop-again c = search filling-more
+loop-again c = search row-next
 
-returns-2 : tie.Need-returns-2 Inv-loop μ-loop
-returns-2 c = search filling-done
+returns-3 : tie.Need-returns-3 Inv-loop μ-loop
+returns-3 c = search row-done
 
 pub gather-row-spec : {M : Type 1} → statement M
 gather-row-spec =
@@ -57,15 +67,18 @@ gather-row-spec =
     (tie.spec
     Inv-loop
     μ-loop
+    blank-row-requires
+    returns
     sub-if2
     copy-row-requires
-    returns
+    returns-2
     loop-holds
-    rank-at-requires
-    mul-ranks
     add-ranks
+    shared-slice-read-ranks
+    mul-ranks
+    add-ranks-2
     element-write-ranks
     add-k
     loop-less
     loop-again
-    returns-2)
+    returns-3)
