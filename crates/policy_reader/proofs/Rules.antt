@@ -1,9 +1,9 @@
 -- A PN as the code reads it, and the loop over those of a policy: what is left to read and to fill from here equals the whole.
--- Rests on the definitions of `rule`, `rules` and `fillRules`, and on Stands: a PN ends where its width says.
+-- Rests on the definitions of `rule`, `rules` and `fillRules`, on Body, and on Stands and Within: a PN ends where its width says, inside.
 use mathlib.Core.Path.{_≡_, refl, ap, sym, _∙_}
 use mathlib.Core.Bool.{Bool, true, false, _&&_}
 use mathlib.Core.List.{List, _∷_}
-use Prim.Native.Nat.{ℕ, suc, _+_, _-_, _*_, _^_, _/_, _%_, _≤_, _<_}
+use Prim.Native.Nat.{ℕ, suc, _+_, _-_, _*_, _/_, _%_, _≤_, _<_}
 use native.Mathlib.Omega.{arith}
 use native.Mathlib.Decide.{ℕ-discrete}
 use borrow.Author.Tests.{le-leb, lt-leb, lt-ltb, le-ltb, eq-eqb, ne-eqb, eqb-true}
@@ -323,7 +323,7 @@ module _ (schema s : List ℕ) (j : ℕ) (t₀ : List ℕ) {X : Run} (k low p : 
       pub rule-scaled : Fits w64 ((16 + 16 * m + j) * 8)
       rule-scaled = record { fits = omega (arith, rule-small, i .few) }
 
-      pub rule-above-fits : Fits w64 (m + 1)
-      rule-above-fits = record { fits = omega (arith, rule-small) }
+      pub rule-above-fits : (w : ℕ) → w ≤ m + 1 → Fits w64 w
+      rule-above-fits w l = record { fits = omega (arith, rule-small) }
 
-pub ruleset of-place = (rule-place, rule-body-fits, rule-row-fits, rule-rows-fits, rule-place-fits, rule-scaled, rule-above-fits)
+pub ruleset of-place = (rule-place, rule-body-fits, rule-row-fits, rule-rows-fits, rule-place-fits, rule-scaled)

@@ -37,7 +37,7 @@ pub record Expected (g : List Node) (s : List ℕ) (n p q : ℕ) (r : Bool) : Ty
   pub inside : r ≡ true → q ≤ length s
   pub read : r ≡ true → Named n q ≡ ruleRead (rule g s n p)
 
--- k PN in a row from node low on that stay below e are all of nodes below count
+-- PN in a row, from node low on and below e, are k at most, of nodes below count
 pub record End (count low k e : ℕ) : Type 0 where
   pub least : low ≤ e
   pub most : e ≤ count

@@ -353,7 +353,7 @@ fn end_of(count: usize, low: usize, left: usize) -> usize
     count
 }
 
-// The n PN of policy j, put into the index.
+// The n PN of policy j, put into the index: as many as stand in a row, then the one that does not, and so on.
 fn read_rules(
     schema: &[u8],
     table: &[usize],

@@ -3,7 +3,7 @@
 use borrow.Author.Needs.{needs}
 use Rattle.schema.specs.Schema.{schemaOf}
 use Rattle.policy_reader.specs.Runs.{leftOf}
-use Rattle.policy_reader.proofs.Rules.{Filling, rules-start, row-low, row-end, row-long, row-few, rules-done, rules-bad, rules-more, of-place, rule-place, rule-place-fits, rule-scaled}
+use Rattle.policy_reader.proofs.Rules.{Filling, rules-start, row-low, row-end, row-long, row-few, rules-done, rules-bad, rules-more, of-place, rule-place, rule-place-fits, rule-scaled, rule-above-fits}
 use Rattle.policy_reader.proofs.read_rules.Statement.{statement}
 use Rattle.policy_reader.proofs.read_rules.Tie as tie
 
@@ -69,7 +69,7 @@ slice-write-index : tie.Need-slice-write-index Inv-loop μ-loop
 slice-write-index c = search (rule-place, c .before .before .before .before .before .before .before .before .before .before .before .before .loop .inv)
 
 add-row : tie.Need-add-row Inv-loop μ-loop
-add-row c = search of-place
+add-row c = search (rule-above-fits, needs)
 
 sub-left-3 : tie.Need-sub-left-3 Inv-loop μ-loop
 sub-left-3 c = search needs
