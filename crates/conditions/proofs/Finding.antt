@@ -15,7 +15,7 @@ use Rattle.policies.proofs.Above.{force-rows, force-few, force-in, force-is}
 use Rattle.conditions.specs.Places.{found, Found}
 use Rattle.conditions.proofs.Said.{said-at}
 
-found-long : (index list : List ℕ) (n r : ℕ) (t : List ℕ) → length (found index list n r t) ≡ length t
+pub found-long : (index list : List ℕ) (n r : ℕ) (t : List ℕ) → length (found index list n r t) ≡ length t
 unfolding found
 found-long index list n zero t = refl
 found-long index list n (suc r) t = length-set (found index list n r t) r (placeIn index (getD list r 0) n) ∙ found-long index list n r t

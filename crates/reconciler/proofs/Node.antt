@@ -29,9 +29,6 @@ use Rattle.conditions.specs.declared.Conditions.{Conditions}
 use Rattle.reconciler.specs.Plan.{LeastIn, Columns, successorIn, Chosen, rulesIn, NodePlanned}
 use Rattle.reconciler.specs.declared.Plan.the-variants.{Unmet, Met, Take}
 
-pub node-below : (schema table : List ℕ) (n : ℕ) → NodeIn schema table n → n < length (schemaOf schema)
-node-below schema table n h = h .below
-
 -- a node that chooses has a rank for each successor
 pub node-columns : (schema table : List ℕ) (n : ℕ) {columns : ℕ} {t : Bool} → NodeIn schema table n → AtMost 8 (length (nodeAt (schemaOf schema) n .successors)) columns
     → t ≡ chooses (nodeAt (schemaOf schema) n) → t ≡ true → Columns schema n columns

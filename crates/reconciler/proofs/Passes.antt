@@ -28,6 +28,8 @@ use Rattle.instances.specs.Plan.{valuesFrom}
 use Rattle.model.specs.Reconciling.{can, plan}
 use Rattle.model.proofs.Reconciler.{can-by-table, taken-by-table}
 use Rattle.order.specs.Order.{inSet}
+use Rattle.conditions.specs.Places.{found}
+use Rattle.conditions.proofs.Finding.{found-long}
 use Rattle.reconciler.specs.Plan.{metBy, choiceBy, rulesIn, NodePlanned, Planned}
 use Rattle.reconciler.specs.declared.Plan.{Plan}
 use Rattle.reconciler.specs.declared.Plan.the-variants.{Unmet, Met, Take}
@@ -42,6 +44,12 @@ values-same (v ∷ vs) t u k f =
 
 pub node-in : (schema table : List ℕ) (n : ℕ) {count : ℕ} → SchemaIn schema table count → 0 < n → n ≤ count → NodeIn schema table (n - 1)
 node-in schema table n s h l = record { table = s .table; below = omega (arith, s .counted) }
+
+pub pass-below : (schema table : List ℕ) (n : ℕ) {count : ℕ} → SchemaIn schema table count → 0 < n → n ≤ count → n - 1 < length (schemaOf schema)
+pass-below schema table n s h l = node-in schema table n s h l .below
+
+pub pass-places : (index list : List ℕ) (n rows : ℕ) (t₀ t : List ℕ) → t ≡ found index list n rows t₀ → length t₀ ≡ 16 → length t ≡ 16
+pass-places index list n rows t₀ t e l = ap length e ∙ found-long index list n rows t₀ ∙ l
 
 -- ---- one turn
 
@@ -130,9 +138,6 @@ module _ (schema table p : List ℕ) (a b n : ℕ) (nodes choices bits after : L
 
   pub pass-small : {k : ℕ} → r ≡ Take k → k < 256
   pass-small e = subst (λ (x : Plan). choiceBy x < 256) e (q .small)
-
-pub pass-long : (schema p : List ℕ) (a b n : ℕ) (nodes bits₀ bits after : List ℕ) {r : Plan} → length bits ≡ length bits₀ → NodePlanned schema p a b n nodes bits after r → length after ≡ length bits₀
-pass-long schema p a b n nodes bits₀ bits after e q = q .long ∙ e
 
 pub pass-done : (schema p : List ℕ) (a b n : ℕ) (nodes choices bits : List ℕ) → Planned schema p a b n nodes choices bits → n ≤ 0 → Planned schema p a b 0 nodes choices bits
 pass-done schema p a b n nodes choices bits w h = let z : n ≡ 0 = omega arith in subst (λ (m : ℕ). Planned schema p a b m nodes choices bits) z w

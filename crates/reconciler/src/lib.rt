@@ -219,21 +219,23 @@ fn choose(
     n: usize,
     columns: usize,
     nodes: &[u8; 64],
+    ranks: &mut [u8; 128],
 ) -> usize
     requires { ⌜ NodeIn (now schema) (now table) n ⌝ }
     requires { ⌜ Found (now schema) (now p) a b n rows (now places) ⌝ }
     requires { ⌜ Columns (now schema) n columns ⌝ }
+    requires { ⌜ length (now ranks) ≡ 128 ⌝ }
     ensures { λ r. ⌜ Chosen (now (schema .entry)) (now (p .entry)) a b n (now (nodes .entry)) r ⌝ }
+    ensures { λ _. ⌜ length (now (ranks .exit)) ≡ 128 ⌝ }
 {
-    let mut ranks = [0u8; 128];
-    gather(schema, p, places, rows, a, b, n, columns, &mut ranks);
+    gather(schema, p, places, rows, a, b, n, columns, ranks);
     let mut set = [0u8; 8];
     fill_set(schema, table, n, columns, nodes, &mut set);
-    order::pick(&ranks, rows, columns, &set)
+    order::pick(ranks, rows, columns, &set)
 }
 
-// What is done at node n, where a set tells which nodes above it can be met; the policies' places are found.
-fn plan_at(
+// What is done at node n, where a set tells which nodes above it can be met.
+fn plan_node(
     schema: &[u8],
     table: &[usize],
     p: &[u8],
@@ -243,17 +245,32 @@ fn plan_at(
     b: u16,
     n: usize,
     nodes: &[u8; 64],
+    ranks: &mut [u8; 128],
     bits: &mut [u32],
 ) -> Plan
     requires { ⌜ NodeIn (now schema) (now table) n ⌝ }
     requires { ⌜ Found (now schema) (now p) a b n rows (now places) ⌝ }
+    requires { ⌜ length (now ranks) ≡ 128 ⌝ }
     requires { ⌜ BitsRoom (now schema) (now bits) ⌝ }
     ensures { λ r. ⌜ NodePlanned (now (schema .entry)) (now (p .entry)) a b n (now (nodes .entry)) (now (bits .entry)) (now (bits .exit)) r ⌝ }
+    ensures { λ _. ⌜ length (now (ranks .exit)) ≡ 128 ⌝ }
 {
     if fill_values(schema, table, p, places, rows, a, b, n, bits) {
         if instances::chooses(schema, table, n) {
             let columns = nodes::successor_count(schema, table, n);
-            let k = choose(schema, table, p, places, rows, a, b, n, columns, nodes);
+            let k = choose(
+                schema,
+                table,
+                p,
+                places,
+                rows,
+                a,
+                b,
+                n,
+                columns,
+                nodes,
+                ranks,
+            );
             if k < 8 {
                 return Plan::Take {
                     successor: nodes::successor_of(schema, table, n, k),
@@ -267,31 +284,6 @@ fn plan_at(
         return Plan::Unmet;
     }
     Plan::Unmet
-}
-
-// What is done at node n, where a set tells which nodes above it can be met.
-fn plan_node(
-    schema: &[u8],
-    table: &[usize],
-    p: &[u8],
-    index: &[usize],
-    list: &[usize; 16],
-    rows: usize,
-    a: u16,
-    b: u16,
-    n: usize,
-    nodes: &[u8; 64],
-    bits: &mut [u32],
-) -> Plan
-    requires { ⌜ NodeIn (now schema) (now table) n ⌝ }
-    requires { ⌜ IndexIn (now schema) (now p) (now index) ⌝ }
-    requires { ⌜ InForce (now schema) (now p) (now list) rows a b ⌝ }
-    requires { ⌜ BitsRoom (now schema) (now bits) ⌝ }
-    ensures { λ r. ⌜ NodePlanned (now (schema .entry)) (now (p .entry)) a b n (now (nodes .entry)) (now (bits .entry)) (now (bits .exit)) r ⌝ }
-{
-    let mut places = [0usize; 16];
-    conditions::find(schema, p, index, list, rows, a, b, n, &mut places);
-    plan_at(schema, table, p, &places, rows, a, b, n, nodes, bits)
 }
 
 // What is done at each node, from the highest to 0.
@@ -315,10 +307,25 @@ fn plan_all(
     requires { ⌜ Planned (now schema) (now p) a b count (now nodes) (now choices) (now bits) ⌝ }
     ensures { λ _. ⌜ Planned (now (schema .entry)) (now (p .entry)) a b 0 (now (nodes .exit)) (now (choices .exit)) (now (bits .exit)) ⌝ }
 {
+    let mut places = [0usize; 16];
+    let mut ranks = [0u8; 128];
     let mut n = count;
     while 0 < n {
         n -= 1;
-        match plan_node(schema, table, p, index, list, rows, a, b, n, nodes, bits) {
+        conditions::find(schema, p, index, list, rows, a, b, n, &mut places);
+        match plan_node(
+            schema,
+            table,
+            p,
+            &places,
+            rows,
+            a,
+            b,
+            n,
+            nodes,
+            &mut ranks,
+            bits,
+        ) {
             Plan::Unmet => {}
             Plan::Met => {
                 nodes[n] = 1;

@@ -15,7 +15,7 @@ pick-requires : tie.Need-pick-requires
 pick-requires c κs = search needs
 
 returns : tie.Need-returns
-returns c = search chosen-is
+returns c = (search chosen-is, search needs)
 
 pub choose-spec : {M : Type 1} → statement M
 choose-spec = tie.close (tie.spec gather-requires fill-set-requires pick-requires returns)

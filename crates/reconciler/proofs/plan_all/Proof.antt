@@ -1,28 +1,39 @@
--- The tables tell of each node from here on.
--- Rests on the laws of one turn, in Passes.
-use mathlib.Core.Path.{_≡_}
+-- The tables tell of each node from here on; the places are found anew for each.
+-- Rests on the laws of one turn, in Passes, and on what find leaves, in Finding.
+use mathlib.Core.Path.{_≡_, _∙_}
 use Prim.Native.Nat.{_≤_}
 use lib.ListN.{length}
+use Rattle.conditions.proofs.Finding.{found-is}
 use Rattle.reconciler.specs.Plan.{Planned}
-use Rattle.reconciler.proofs.Passes.{node-in, pass-place, pass-unmet, pass-met, pass-take, pass-small, pass-long, pass-done}
+use Rattle.reconciler.proofs.Passes.{node-in, pass-below, pass-place, pass-places, pass-unmet, pass-met, pass-take, pass-small, pass-done}
 use borrow.Author.Needs.{needs}
 use Rattle.reconciler.proofs.plan_all.Statement.{statement}
 use Rattle.reconciler.proofs.plan_all.Tie as tie
 
 abbrev Inv-loop : tie.InvT-loop
-Inv-loop schema table count p index list rows a b nodes₀ choices₀ bits₀ n₀ nodes choices bits n = Planned schema p a b n nodes choices bits × (n ≤ count) × (length bits ≡ length bits₀)
+Inv-loop schema table count p index list rows a b nodes₀ choices₀ bits₀ places₀ ranks₀ n₀ nodes choices bits places ranks n =
+    Planned schema p a b n nodes choices bits × (n ≤ count) × (length bits ≡ length bits₀) × (length places ≡ 16) × (length ranks ≡ 128)
 
 abbrev μ-loop : tie.MeasureT-loop
-μ-loop schema table count p index list rows a b nodes₀ choices₀ bits₀ n₀ nodes choices bits n = n
+μ-loop schema table count p index list rows a b nodes₀ choices₀ bits₀ places₀ ranks₀ n₀ nodes choices bits places ranks n = n
 
 loop-holds : tie.Need-loop-holds Inv-loop μ-loop
-loop-holds c = (search needs, search needs, search needs)
+loop-holds c = (search needs, search needs, search needs, search needs, search needs)
 
 sub-n : tie.Need-sub-n Inv-loop μ-loop
 sub-n c = search needs
 
+find-requires : tie.Need-find-requires Inv-loop μ-loop
+find-requires c κs = (search needs, (search needs, (search pass-below, search needs)))
+
 plan-node-requires : tie.Need-plan-node-requires Inv-loop μ-loop
-plan-node-requires c κs = (search node-in, (search needs, (search needs, search needs)))
+plan-node-requires c κs =
+    let found = c .before .before .before .before in
+    let turn = found .before .before in
+    let loop = turn .before in
+    let start = loop .before .before .before .before .before .before in
+    let node = node-in _ _ _ (start .pre .0) (turn .loop-test .taken) (loop .loop .inv .1) in
+    (node, (found-is _ _ _ _ _ _ _ _ _ _ node (start .pre .1 .0) (start .pre .1 .1 .0) (loop .loop .inv .3) (found .find .ensures), (search needs, search needs)))
 
 enum-told : tie.Need-enum-told Inv-loop μ-loop
 enum-told c = search needs
@@ -33,10 +44,10 @@ loop-less c = search needs
 loop-again : tie.Need-loop-again Inv-loop μ-loop
 loop-again c =
     let done = c .before .before .before .before in
-    let turn = done .before .before .before in
+    let turn = done .before .before .before .before .before .before .before in
     let loop = turn .before in
     let known = loop .before .before .before .before .before in
-    (pass-unmet _ _ _ _ _ _ _ _ _ _ (known .shared-slice-known .given) (known .before .pre .0) (loop .loop .inv .0) (turn .loop-test .taken) (loop .loop .inv .1) (done .plan-node .ensures) (c .enum-told .given .1), search needs, search pass-long)
+    (pass-unmet _ _ _ _ _ _ _ _ _ _ (known .shared-slice-known .given) (known .before .pre .0) (loop .loop .inv .0) (turn .loop-test .taken) (loop .loop .inv .1) (done .plan-node .ensures .0) (c .enum-told .given .1), search needs, done .plan-node .ensures .0 .long ∙ loop .loop .inv .2, search pass-places, search needs)
 
 enum-told-2 : tie.Need-enum-told-2 Inv-loop μ-loop
 enum-told-2 c = search needs
@@ -50,10 +61,10 @@ loop-less-2 c = search needs
 loop-again-2 : tie.Need-loop-again-2 Inv-loop μ-loop
 loop-again-2 c =
     let done = c .before .before .before .before in
-    let turn = done .before .before .before in
+    let turn = done .before .before .before .before .before .before .before in
     let loop = turn .before in
     let known = loop .before .before .before .before .before in
-    (pass-met _ _ _ _ _ _ _ _ _ _ (known .shared-slice-known .given) (known .before .pre .0) (loop .loop .inv .0) (turn .loop-test .taken) (loop .loop .inv .1) (done .plan-node .ensures) (c .enum-told2 .given .1), search needs, search pass-long)
+    (pass-met _ _ _ _ _ _ _ _ _ _ (known .shared-slice-known .given) (known .before .pre .0) (loop .loop .inv .0) (turn .loop-test .taken) (loop .loop .inv .1) (done .plan-node .ensures .0) (c .enum-told2 .given .1), search needs, done .plan-node .ensures .0 .long ∙ loop .loop .inv .2, search pass-places, search needs)
 
 enum-known-successor : tie.Need-enum-known-successor Inv-loop μ-loop
 enum-known-successor c = search needs
@@ -61,10 +72,10 @@ enum-known-successor c = search needs
 cast-choices : tie.Need-cast-choices Inv-loop μ-loop
 cast-choices c =
     let done = c .before .before .before .before .before in
-    let turn = done .before .before .before in
+    let turn = done .before .before .before .before .before .before .before in
     let loop = turn .before in
     let known = loop .before .before .before .before .before in
-    record { fits = pass-small _ _ _ _ _ _ _ _ _ _ (known .shared-slice-known .given) (known .before .pre .0) (loop .loop .inv .0) (turn .loop-test .taken) (loop .loop .inv .1) (done .plan-node .ensures) (c .before .successor .given .1) }
+    record { fits = pass-small _ _ _ _ _ _ _ _ _ _ (known .shared-slice-known .given) (known .before .pre .0) (loop .loop .inv .0) (turn .loop-test .taken) (loop .loop .inv .1) (done .plan-node .ensures .0) (c .before .successor .given .1) }
 
 element-write-choices : tie.Need-element-write-choices Inv-loop μ-loop
 element-write-choices c = search pass-place
@@ -76,7 +87,12 @@ loop-less-3 : tie.Need-loop-less-3 Inv-loop μ-loop
 loop-less-3 c = search needs
 
 loop-again-3 : tie.Need-loop-again-3 Inv-loop μ-loop
-loop-again-3 c = (search pass-take, search needs, search pass-long)
+loop-again-3 c =
+    let done = c .before .before .before .before .before in
+    let turn = done .before .before .before .before .before .before .before in
+    let loop = turn .before in
+    let known = loop .before .before .before .before .before in
+    (pass-take _ _ _ _ _ _ _ _ _ _ (known .shared-slice-known .given) (known .before .pre .0) (loop .loop .inv .0) (turn .loop-test .taken) (loop .loop .inv .1) (done .plan-node .ensures .0) (c .before .successor .given .1), search needs, done .plan-node .ensures .0 .long ∙ loop .loop .inv .2, search pass-places, search needs)
 
 same-length : tie.Need-same-length Inv-loop μ-loop
 same-length c = search needs
@@ -92,6 +108,7 @@ plan-all-spec =
     μ-loop
     loop-holds
     sub-n
+    find-requires
     plan-node-requires
     enum-told
     loop-less

@@ -1,25 +1,75 @@
--- The places are found, then the node is planned.
--- Rests on what find leaves, in Finding.
-use Rattle.conditions.proofs.Finding.{found-is}
-use Rattle.reconciler.proofs.Node.{node-below}
+-- Each return is one case of the model's step.
+-- Rests on the laws of one node, in Node.
+use Rattle.reconciler.proofs.Node.{chosen-inside, node-columns, node-empty, node-take, node-none, node-met, node-some-unmet}
 use borrow.Author.Needs.{needs}
 use Rattle.reconciler.proofs.plan_node.Statement.{statement}
 use Rattle.reconciler.proofs.plan_node.Tie as tie
 
-find-requires : tie.Need-find-requires
-find-requires c κs = (search needs, (search needs, (search node-below, search needs)))
+fill-values-requires : tie.Need-fill-values-requires
+fill-values-requires c κs = search needs
 
-plan-at-requires : tie.Need-plan-at-requires
-plan-at-requires c κs =
-    let found = c .before .before in
-    let start = found .before .before .before .before .before .before .before in
-    (search needs, (found-is _ _ _ _ _ _ _ _ _ _ (start .pre .0) (start .pre .1 .0) (start .pre .1 .1 .0) (search needs) (found .find .ensures), search needs))
+chooses-requires : tie.Need-chooses-requires
+chooses-requires c κs = search needs
+
+successor-count-requires : tie.Need-successor-count-requires
+successor-count-requires c κs = search needs
+
+choose-requires : tie.Need-choose-requires
+choose-requires c κs = (search needs, (search needs, (search node-columns, search needs)))
+
+successor-of-requires : tie.Need-successor-of-requires
+successor-of-requires c κs = (search needs, search chosen-inside)
 
 same-length : tie.Need-same-length
 same-length c = search needs
 
 returns : tie.Need-returns
-returns c = search needs
+returns c = (search node-take, search needs)
+
+same-length-2 : tie.Need-same-length-2
+same-length-2 c = search needs
+
+returns-2 : tie.Need-returns-2
+returns-2 c = (search node-none, search needs)
+
+all-in-requires : tie.Need-all-in-requires
+all-in-requires c κs = search needs
+
+same-length-3 : tie.Need-same-length-3
+same-length-3 c = search needs
+
+returns-3 : tie.Need-returns-3
+returns-3 c = (search node-met, search needs)
+
+same-length-4 : tie.Need-same-length-4
+same-length-4 c = search needs
+
+returns-4 : tie.Need-returns-4
+returns-4 c = (search node-some-unmet, search needs)
+
+same-length-5 : tie.Need-same-length-5
+same-length-5 c = search needs
+
+returns-5 : tie.Need-returns-5
+returns-5 c = (search node-empty, search needs)
 
 pub plan-node-spec : {M : Type 1} → statement M
-plan-node-spec = tie.close (tie.spec find-requires plan-at-requires same-length returns)
+plan-node-spec =
+    tie.close
+    (tie.spec
+    fill-values-requires
+    chooses-requires
+    successor-count-requires
+    choose-requires
+    successor-of-requires
+    same-length
+    returns
+    same-length-2
+    returns-2
+    all-in-requires
+    same-length-3
+    returns-3
+    same-length-4
+    returns-4
+    same-length-5
+    returns-5)
