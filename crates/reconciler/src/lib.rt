@@ -286,7 +286,7 @@ fn plan_node(
     Plan::Unmet
 }
 
-// What is done at each node, from the highest to 0.
+// What is done at each node, from the highest to 0; one table of places and one of ranks serve them all.
 fn plan_all(
     schema: &[u8],
     table: &[usize],

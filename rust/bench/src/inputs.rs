@@ -45,6 +45,13 @@ pub fn groups(random: &mut Random) -> Vec<Group> {
         sixty_four("chain", random, shapes::chain),
         sixty_four("ladder of diamonds", random, shapes::diamonds),
         sixty_four("ladder of two rails", random, shapes::rails),
+        group("largest, every second node named", 8, || {
+            let mut largest = shapes::largest(random);
+            for policy in &mut largest.policies {
+                policy.nodes.retain(|named| named.node % 2 == 0);
+            }
+            largest
+        }),
     ];
     for policies in [1, 2, 4, 8, 16] {
         groups.push(group(&format!("largest schema, {policies} policies"), 8, || {
