@@ -133,8 +133,8 @@ fn conditions_of(
     ensures { λ r. ⌜ r ≡ recordOf (combined (schemaOf (now (schema .entry))) (forced a b (policiesOf (schemaOf (now (schema .entry))) (now (p .entry)))) n) ⌝ }
 {
     let mut places = [0usize; 16];
-    conditions::find(schema, p, index, list, rows, a, b, n, &mut places);
-    conditions::combine(schema, table, p, &places, rows, a, b, n)
+    let found = conditions::find(schema, p, index, list, rows, a, b, n, &mut places);
+    conditions::combine(schema, table, p, &places, found, a, b, n)
 }
 
 // The first of node n's values, from a place of the file on, that a policy in force does not admit.

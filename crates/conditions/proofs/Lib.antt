@@ -1,5 +1,6 @@
 pub mod Held
 pub mod Said
+pub mod Speaking
 pub mod Narrowing
 pub mod Finding
 pub mod Combining

@@ -1,7 +1,7 @@
--- The loop over the policies in force for one variable: those from row r on are left.
--- Rests on where each speaks of the node, in Said.
+-- The loop over the policies in force that speak of the node, for one variable: those from row r on are left.
+-- Rests on what each says there, in Said, and on Speaking for the others, which leave all.
 use mathlib.Core.Path.{_≡_, refl, ap, ap₂, sym, _∙_}
-use mathlib.Core.Bool.{Bool, true, false}
+use mathlib.Core.Bool.{true, false}
 use mathlib.Core.List.{List}
 use Prim.Native.Nat.{ℕ, _+_, _≤_, _<_, _^_}
 use native.Mathlib.Omega.{arith}
@@ -22,25 +22,26 @@ use Rattle.policies.specs.Policies.{Condition, range, mask, Policy, noPolicy, p
 use Rattle.policies.specs.Pass.{forced}
 use Rattle.model.specs.Satisfaction.{conditionAt}
 use Rattle.model.specs.Reconciling.{both, restrict, restrictAll}
-use Rattle.conditions.specs.Places.{Found, ConditionIn}
-use Rattle.conditions.proofs.Said.{said-nothing, range-said, range-inside, mask-said, mask-inside}
+use Rattle.conditions.specs.Places.{speaking, Found, ConditionIn}
+use Rattle.conditions.proofs.Said.{range-said, range-inside, mask-said, mask-inside}
+use Rattle.conditions.proofs.Speaking.{conditions-speaking}
 
 -- a bound is what its bits say
 pub kept : (z : ℤ) → mag z < 2 ^ 31 → toZ w32 (ofZ w32 z) ≡ z
 kept z f = toZ-ofZ w32 z (record { sfits = f })
 
 -- where a policy speaks of the node, there is room for the condition
-module _ (schema p : List ℕ) (a b n k rows : ℕ) (places : List ℕ) (r : ℕ) {offset : ℕ} (f : Found schema p a b n rows places) (h : r < rows) (z : getD places r 0 ≡ 0 → ⊥) where
+module _ (schema p : List ℕ) (a b n k rows : ℕ) (places : List ℕ) (r : ℕ) {offset : ℕ} (f : Found schema p a b n rows places) (h : r < rows) where
   module _ (i : ConditionIn (schemaOf schema) n k offset true) where
     pub range-room : getD places r 0 + offset + 8 ≤ length p
-    range-room = range-inside (schemaOf schema) p (policyAt (forced a b (policiesOf (schemaOf schema) p)) r) n (getD places r 0) k offset (f .each r h) i z
+    range-room = range-inside (schemaOf schema) p (policyAt (speaking n (forced a b (policiesOf (schemaOf schema) p))) r) n (getD places r 0) k offset (f .each r h) i
 
     pub range-fits : length p < 2 ^ 64 → Fits w64 (getD places r 0 + offset)
     range-fits m = record { fits = omega (arith, range-room) }
 
   module _ (i : ConditionIn (schemaOf schema) n k offset false) where
     pub mask-room : getD places r 0 + offset + 4 ≤ length p
-    mask-room = mask-inside (schemaOf schema) p (policyAt (forced a b (policiesOf (schemaOf schema) p)) r) n (getD places r 0) k offset (f .each r h) i z
+    mask-room = mask-inside (schemaOf schema) p (policyAt (speaking n (forced a b (policiesOf (schemaOf schema) p))) r) n (getD places r 0) k offset (f .each r h) i
 
     pub mask-fits : length p < 2 ^ 64 → Fits w64 (getD places r 0 + offset)
     mask-fits m = record { fits = omega (arith, mask-room) }
@@ -67,7 +68,7 @@ narrowing-mask-none qs n k size e = record { left = ap (λ (x : ℕ). restrictAl
 
 module _ (schema p : List ℕ) (a b n k rows : ℕ) (places : List ℕ) (start : Condition) (r : ℕ) (f : Found schema p a b n rows places) where
   abbrev qs : List Policy
-  qs = forced a b (policiesOf (schemaOf schema) p)
+  qs = speaking n (forced a b (policiesOf (schemaOf schema) p))
 
   turn : {c d : Condition} → Narrowing qs n k start r c → r < rows → d ≡ restrict c (conditionAt (policyAt qs r) n k) → Narrowing qs n k start (r + 1) d
   unfolding restrictAll
@@ -80,38 +81,34 @@ module _ (schema p : List ℕ) (a b n k rows : ℕ) (places : List ℕ) (start :
             ∙ w .left;
       }
 
-  pub narrowing-done : {c : Condition} → Narrowing qs n k start r c → rows ≤ r → c ≡ restrictAll qs n k start
+  pub narrowing-done : {c : Condition} → Narrowing qs n k start r c → rows ≤ r → c ≡ restrictAll (forced a b (policiesOf (schemaOf schema) p)) n k start
   unfolding restrictAll
-  narrowing-done {c} w h = sym (ap (λ (l : List Policy). restrictAll l n k c) (drop-of-length-le qs {i = r} (omega (arith, f .rows-is)))) ∙ w .left
+  narrowing-done {c} w h =
+      sym (ap (λ (l : List Policy). restrictAll l n k c) (drop-of-length-le qs {i = r} (omega (arith, f .rows-is))))
+      ∙ w .left
+      ∙ conditions-speaking n k (forced a b (policiesOf (schemaOf schema) p)) start
 
-  -- a policy that does not speak of the node
-  pub narrowing-same : {number : Bool} {offset : ℕ} {c : Condition} → Narrowing qs n k start r c → r < rows → ConditionIn (schemaOf schema) n k offset number
-      → getD places r 0 ≡ 0 → Narrowing qs n k start (r + 1) c
-  unfolding restrict
-  narrowing-same {offset = offset} {c} w h i z =
-      turn w h (ap (restrict c) (sym (said-nothing (schemaOf schema) p (policyAt qs r) n (getD places r 0) k offset (f .each r h) i z)))
-
-  -- one that does: a number's bounds
-  module _ {offset : ℕ} (i : ConditionIn (schemaOf schema) n k offset true) (h : r < rows) (z : getD places r 0 ≡ 0 → ⊥) where
+  -- a number's bounds
+  module _ {offset : ℕ} (i : ConditionIn (schemaOf schema) n k offset true) (h : r < rows) where
     pub narrowing-range : {c d : Condition} → Narrowing qs n k start r c
         → d ≡ both c (range (signed (be 4 p (getD places r 0 + offset))) (signed (be 4 p (getD places r 0 + offset + 4)))) → Narrowing qs n k start (r + 1) d
     unfolding restrict
     narrowing-range {c} w e =
-        turn w h (e ∙ ap (restrict c) (sym (range-said (schemaOf schema) p (policyAt qs r) n (getD places r 0) k offset (f .each r h) i z)))
+        turn w h (e ∙ ap (restrict c) (sym (range-said (schemaOf schema) p (policyAt qs r) n (getD places r 0) k offset (f .each r h) i)))
 
   -- a mask
-  module _ {offset : ℕ} (i : ConditionIn (schemaOf schema) n k offset false) (h : r < rows) (z : getD places r 0 ≡ 0 → ⊥) where
+  module _ {offset : ℕ} (i : ConditionIn (schemaOf schema) n k offset false) (h : r < rows) where
     pub narrowing-mask : {m x : ℕ} → Narrowing qs n k start r (mask m) → x ≡ be 4 p (getD places r 0 + offset)
         → Narrowing qs n k start (r + 1) (mask (bitAnd m x))
     unfolding restrict both
     narrowing-mask {m} w d =
         turn w h
         (ap (λ (y : ℕ). mask (bitAnd m y)) d
-        ∙ ap (restrict (mask m)) (sym (mask-said (schemaOf schema) p (policyAt qs r) n (getD places r 0) k offset (f .each r h) i z)))
+        ∙ ap (restrict (mask m)) (sym (mask-said (schemaOf schema) p (policyAt qs r) n (getD places r 0) k offset (f .each r h) i)))
 
 -- the range that the code begins with
 pub narrowing-bounds : (schema p : List ℕ) (a b n k rows : ℕ) (places : List ℕ) (r : ℕ) {least most : ℤ} {c : Condition} → Found schema p a b n rows places → SFits w32 least → SFits w32 most
-    → Narrowing (forced a b (policiesOf (schemaOf schema) p)) n k (range (toZ w32 (ofZ w32 least)) (toZ w32 (ofZ w32 most))) r c → rows ≤ r
+    → Narrowing (speaking n (forced a b (policiesOf (schemaOf schema) p))) n k (range (toZ w32 (ofZ w32 least)) (toZ w32 (ofZ w32 most))) r c → rows ≤ r
     → c ≡ restrictAll (forced a b (policiesOf (schemaOf schema) p)) n k (range least most)
 narrowing-bounds schema p a b n k rows places r {least} {most} f fl fm w h =
     narrowing-done schema p a b n k rows places (range (toZ w32 (ofZ w32 least)) (toZ w32 (ofZ w32 most))) r f w h

@@ -28,9 +28,9 @@ use Rattle.model.specs.Satisfaction.{every}
 use Rattle.model.specs.Reconciling.{own, both, restrictAll, combined}
 use Rattle.model.proofs.Values.{combined-at}
 use Rattle.conditions.specs.Held.{four, recordOf}
-use Rattle.conditions.specs.Places.{Found, ConditionIn, fourNumbers}
+use Rattle.conditions.specs.Places.{speaking, Found, ConditionIn, fourNumbers}
 use Rattle.conditions.specs.declared.Range.{Range}
-use Rattle.conditions.proofs.Narrowing.{Narrowing, narrowing-same, narrowing-range, narrowing-done, range-room, kept}
+use Rattle.conditions.proofs.Narrowing.{Narrowing, narrowing-range, narrowing-done, range-room, kept}
 
 -- ---- the test
 
@@ -135,14 +135,14 @@ pub record Four (schema p : List ℕ) (a b n rows : ℕ) (places : List ℕ) (of
   pub numbers : fourNumbers (nodeAt (schemaOf schema) n .variables) ≡ true
   pub first : AtMost 8 (rankCount (nodeAt (schemaOf schema) n)) offset
   pub small : length p < 2 ^ 64
-  pub each : (k : ℕ) → k < 4 → Left (schemaOf schema) (forced a b (policiesOf (schemaOf schema) p)) n r (w ∷ x ∷ y ∷ z ∷ []) k
+  pub each : (k : ℕ) → k < 4 → Left (schemaOf schema) (speaking n (forced a b (policiesOf (schemaOf schema) p))) n r (w ∷ x ∷ y ∷ z ∷ []) k
 
 pub four-none : (schema p : List ℕ) (a b n rows : ℕ) (places : List ℕ) {offset : ℕ} {w x y z : Condition} → Found schema p a b n rows places
     → fourNumbers (nodeAt (schemaOf schema) n .variables) ≡ true → AtMost 8 (rankCount (nodeAt (schemaOf schema) n)) offset → length p < 2 ^ 64
     → w ≡ own (variableAt (schemaOf schema) n 0) → x ≡ own (variableAt (schemaOf schema) n 1) → y ≡ own (variableAt (schemaOf schema) n 2) → z ≡ own (variableAt (schemaOf schema) n 3)
     → Four schema p a b n rows places offset 0 w x y z
 four-none schema p a b n rows places {w = w} {x} {y} {z} f t m l ew ex ey ez =
-    let qs = forced a b (policiesOf (schemaOf schema) p) in
+    let qs = speaking n (forced a b (policiesOf (schemaOf schema) p)) in
     record {
       found = f;
       numbers = t;
@@ -161,7 +161,7 @@ module _ (schema p : List ℕ) (a b n rows : ℕ) (places : List ℕ) (offset r 
   g = schemaOf schema
 
   abbrev qs : List Policy
-  qs = forced a b (policiesOf g p)
+  qs = speaking n (forced a b (policiesOf g p))
 
   abbrev vs : List Variable
   vs = nodeAt g n .variables
@@ -180,14 +180,9 @@ module _ (schema p : List ℕ) (a b n rows : ℕ) (places : List ℕ) (offset r 
   next : {w' x' y' z' : Condition} → ((k : ℕ) → k < 4 → Left g qs n (r + 1) (w' ∷ x' ∷ y' ∷ z' ∷ []) k) → Four schema p a b n rows places offset (r + 1) w' x' y' z'
   next e = record { found = u .found; numbers = u .numbers; first = u .first; small = u .small; each = e }
 
-  -- a policy that does not speak of the node
-  pub four-same : r < rows → getD places r 0 ≡ 0 → Four schema p a b n rows places offset (r + 1) w x y z
-  four-same h e = next λ k l. narrowing-same schema p a b n k rows places (own (variableAt g n k)) r (u .found) (u .each k l) h (place k l) e
-
-  -- one that does
-  module _ (h : r < rows) (e : getD places r 0 ≡ 0 → ⊥) where
+  module _ (h : r < rows) where
     room : getD places r 0 + offset + 32 ≤ length p
-    room = omega (arith, range-room schema p a b n 3 rows places r (u .found) h e (place 3 (omega arith)))
+    room = omega (arith, range-room schema p a b n 3 rows places r (u .found) h (place 3 (omega arith)))
 
     pub first-room : getD places r 0 + offset + 8 ≤ length p
     first-room = omega (arith, room)
@@ -204,7 +199,7 @@ module _ (schema p : List ℕ) (a b n rows : ℕ) (places : List ℕ) (offset r 
     turn : (k at : ℕ) → k < 4 → at ≡ getD places r 0 + offset + 8 * k → {c d : Condition} → Narrowing qs n k (own (variableAt g n k)) r c
         → d ≡ both c (range (signed (be 4 p at)) (signed (be 4 p (at + 4)))) → Narrowing qs n k (own (variableAt g n k)) (r + 1) d
     turn k at l i {c} s d =
-        narrowing-range schema p a b n k rows places (own (variableAt g n k)) r (u .found) (place k l) h e s
+        narrowing-range schema p a b n k rows places (own (variableAt g n k)) r (u .found) (place k l) h s
         (d ∙ ap (λ (j : ℕ). both c (range (signed (be 4 p j)) (signed (be 4 p (j + 4))))) (let q : at ≡ getD places r 0 + (offset + 8 * k) = omega arith in q))
 
     pub four-range : {w' x' y' z' : Condition}
@@ -223,11 +218,11 @@ module _ (schema p : List ℕ) (a b n rows : ℕ) (places : List ℕ) (offset r 
         (turn 3 (at + 24) (omega arith) (omega arith) (u .each 3 (omega arith)) ez))
 
   -- all rows are behind
-  done-at : rows ≤ r → (k : ℕ) → k < 4 → getD (combined g qs n) k (mask 0) ≡ getD (w ∷ x ∷ y ∷ z ∷ []) k (mask 0)
+  done-at : rows ≤ r → (k : ℕ) → k < 4 → getD (combined g (forced a b (policiesOf g p)) n) k (mask 0) ≡ getD (w ∷ x ∷ y ∷ z ∷ []) k (mask 0)
   unfolding combined
   done-at h k l =
-      combined-at qs n 0 k vs (mask 0) (four-below vs k (u .numbers) l)
-      ∙ ap (λ (j : ℕ). restrictAll qs n j (own (variableAt g n k))) (zero-add k)
+      combined-at (forced a b (policiesOf g p)) n 0 k vs (mask 0) (four-below vs k (u .numbers) l)
+      ∙ ap (λ (j : ℕ). restrictAll (forced a b (policiesOf g p)) n j (own (variableAt g n k))) (zero-add k)
       ∙ sym (narrowing-done schema p a b n k rows places (own (variableAt g n k)) r (u .found) (u .each k l) h)
 
 -- the record, as the code makes it of the bounds

@@ -1,14 +1,14 @@
 -- Where a policy speaks of a node: found through the index, and what its conditions are there.
 -- Rests on where an accepted policy's rules stand in its stretch of the file, whose bytes are the file's.
 use mathlib.Core.Path.{_≡_, refl, ap, sym, subst, _∙_}
-use mathlib.Core.Bool.{Bool, true, false, cond}
+use mathlib.Core.Bool.{Bool, true, false, cond, not}
 use mathlib.Core.List.{List}
-use mathlib.Core.Option.{Option, none, some}
+use mathlib.Core.Option.{Option, some}
 use Prim.Native.Nat.{ℕ, zero, suc, _+_, _*_, _≤_, _<_}
 use native.Mathlib.Omega.{arith}
 use native.Mathlib.Nat.{add-zero}
 use native.Mathlib.Decide.{ℕ-discrete}
-use borrow.Author.Tests.{eq-eqb, ne-eqb}
+use borrow.Author.Tests.{eq-eqb, ne-eqb, eqb-false}
 use lib.Dec.{eqb}
 use lib.ListN.{length, getD, getElem?, drop, length-drop}
 use lib.Seq.{getD-drop}
@@ -19,10 +19,10 @@ use Rattle.fields.proofs.Tests.{never}
 use Rattle.schema.specs.Schema.{Node, schemaOf, nodeAt, noVariable, isNumber}
 use Rattle.schema.specs.declared.Variable.{Variable}
 use Rattle.schema.specs.declared.Variable.the-variants.{Number, Listed}
-use Rattle.policies.specs.Policies.{Condition, range, mask, Rule, Policy, condition, conditions, conditionsOf, ruleFor, noRule, rankCount, rankOf}
+use Rattle.policies.specs.Policies.{Condition, range, mask, Rule, Policy, condition, conditions, conditionsOf, hasRule, ruleFor, rankCount, rankOf}
 use Rattle.policies.specs.Index.{conditionWidth, placeIn, PolicyIn, policyOf, span, spans, offsetOf}
 use Rattle.policies.proofs.Stands.{ConditionAt, ConditionsAt, none, more, conditions-back}
-use Rattle.policies.proofs.Places.{Place, absent, present, row, rest, place-inside}
+use Rattle.policies.proofs.Places.{Place, absent, present, row, row-none, rest, place-inside}
 use Rattle.model.specs.Satisfaction.{conditionAt}
 use Rattle.conditions.specs.Places.{SaidAt, ConditionIn}
 
@@ -77,23 +77,7 @@ module _ (schema p t : List ℕ) (j n : ℕ) (w : PolicyIn schema p t j) (below 
   here : Place (schemaOf schema) (drop head p) n at (ruleFor n (policyOf schema p j .rules))
   here = subst (λ (l : List ℕ). Place (schemaOf schema) l n at (ruleFor n (policyOf schema p j .rules))) (rest p head) (row schema p t j w n below)
 
-  nothing : {i : ℕ} {x : Rule} → Place (schemaOf schema) (drop head p) n i x → i ≡ 0 → x ≡ noRule
-  nothing absent e = refl
-  nothing (present a r) e = absurd (omega arith)
-
-  said-nowhere : at ≡ 0 → SaidAt (schemaOf schema) p (policyOf schema p j) n 0
-  said-nowhere e =
-      record {
-        silent = λ _. nothing here e;
-        inside = omega arith;
-        ranks = λ z. absurd (z refl);
-        end = 0;
-        conditions = λ z. absurd (z refl);
-      }
-
   record There (i : ℕ) (x : Rule) : Type 0 where
-    pub after : i ≡ 0 → ⊥
-    pub inside : i ≤ length (drop head p)
     pub ranks : (k : ℕ) → k < rankCount (nodeAt (schemaOf schema) n) → (i + k < length (drop head p)) × (getD (drop head p) (i + k) 0 ≡ getD (x .ranks) k 0)
     pub conditions : ConditionsAt (drop head p) (i + rankCount (nodeAt (schemaOf schema) n)) (nodeAt (schemaOf schema) n .variables) (x .conditions)
 
@@ -101,8 +85,6 @@ module _ (schema p t : List ℕ) (j n : ℕ) (w : PolicyIn schema p t j) (below 
   there absent e = absurd (e refl)
   there (present {p = q} {x} a r) e =
       record {
-        after = λ z. omega arith;
-        inside = r .inside;
         ranks = λ k l.
             let c : k < length (x .ranks) = rw (r .count, a) l in
             (let m = r .ranks .inside (omega arith) in omega arith, sym (r .ranks .each k c));
@@ -118,24 +100,31 @@ module _ (schema p t : List ℕ) (j n : ℕ) (w : PolicyIn schema p t j) (below 
         let x = there here e in
         let c = conditions-there (conditions-shift head p (x .conditions)) in
         record {
-          silent = λ z. absurd (e (omega arith));
           inside = place-inside schema p t j w n below e;
-          ranks = λ _ k l.
+          ranks = λ k l.
               let r = x .ranks k l in
               let z : head + (at + k) ≡ head + at + k = omega arith in
               (let y = r .0 in omega (arith, length-drop head p), sym (ap (λ (i : ℕ). getD p i 0) z) ∙ sym (getD-drop head p (at + k) 0) ∙ r .1);
           end = c .0;
-          conditions = λ _. ap (conditions p (nodeAt (schemaOf schema) n .variables)) (let z : head + at + rankCount (nodeAt (schemaOf schema) n) ≡ head + (at + rankCount (nodeAt (schemaOf schema) n)) = omega arith in z) ∙ c .1;
+          conditions = ap (conditions p (nodeAt (schemaOf schema) n .variables)) (let z : head + at + rankCount (nodeAt (schemaOf schema) n) ≡ head + (at + rankCount (nodeAt (schemaOf schema) n)) = omega arith in z) ∙ c .1;
         }
 
-  -- the place that the index gives is where the policy speaks of the node
-  pub said-at : SaidAt (schemaOf schema) p (policyOf schema p j) n (placeIn t j n)
+  -- the place that the index gives is 0 exactly if the policy has no PN of the node, else it is where the policy speaks of it
+  pub said-none : eqb (placeIn t j n) 0 ≡ not (hasRule n (policyOf schema p j .rules))
+  unfolding placeIn
+  said-none = go (eqb at 0) refl ∙ row-none schema p t j w n below
+    where
+      go : (b : Bool) → eqb at 0 ≡ b → eqb (cond b 0 (head + at)) 0 ≡ b
+      go true e = refl
+      go false e = ne-eqb (head + at) 0 (λ z. eqb-false at 0 e (omega arith))
+
+  pub said-at : (placeIn t j n ≡ 0 → ⊥) → SaidAt (schemaOf schema) p (policyOf schema p j) n (placeIn t j n)
   unfolding placeIn
   said-at = go (ℕ-discrete at 0)
     where
-      go : Dec (at ≡ 0) → SaidAt (schemaOf schema) p (policyOf schema p j) n (cond (eqb at 0) 0 (head + at))
-      go (yes e) = rw (eq-eqb at 0 e) (said-nowhere e)
-      go (no e) = rw (ne-eqb at 0 e) (said-there e)
+      go : Dec (at ≡ 0) → (cond (eqb at 0) 0 (head + at) ≡ 0 → ⊥) → SaidAt (schemaOf schema) p (policyOf schema p j) n (cond (eqb at 0) 0 (head + at))
+      go (yes e) = rw (eq-eqb at 0 e) (λ z. absurd (z refl))
+      go (no e) = rw (ne-eqb at 0 e) (λ _. said-there e)
 
 -- ---- the condition of one variable
 
@@ -160,21 +149,17 @@ kth {s} {p} (more {v = v} {vs} {c} {cs} a t) (suc k) h =
     (kth t k (omega arith))
 
 module _ (g : List Node) (s : List ℕ) (q : Policy) (n p k offset : ℕ) (w : SaidAt g s q n p) {number : Bool} (c : ConditionIn g n k offset number) where
-  pub said-nothing : p ≡ 0 → conditionAt q n k ≡ none
-  unfolding conditionAt conditionsOf
-  said-nothing e = ap (λ (x : Rule). getElem? (x .conditions) k) (w .silent e)
-
-  here-k : (p ≡ 0 → ⊥) → Kth s (p + offset) (getD (nodeAt g n .variables) k noVariable) (conditionAt q n k)
+  here-k : Kth s (p + offset) (getD (nodeAt g n .variables) k noVariable) (conditionAt q n k)
   unfolding conditionAt offsetOf
-  here-k e =
+  here-k =
       subst (λ (i : ℕ). Kth s i (getD (nodeAt g n .variables) k noVariable) (getElem? (conditionsOf q n) k))
       (let z : p + rankCount (nodeAt g n) + spans k (nodeAt g n .variables) ≡ p + offset = omega (arith, c .place) in z)
-      (kth (conditions-back s (nodeAt g n .variables) (p + rankCount (nodeAt g n)) (w .conditions e) .stands) k (c .below))
+      (kth (conditions-back s (nodeAt g n .variables) (p + rankCount (nodeAt g n)) (w .conditions) .stands) k (c .below))
 
 -- a number's bounds
-module _ (g : List Node) (s : List ℕ) (q : Policy) (n p k offset : ℕ) (w : SaidAt g s q n p) (c : ConditionIn g n k offset true) (e : p ≡ 0 → ⊥) where
+module _ (g : List Node) (s : List ℕ) (q : Policy) (n p k offset : ℕ) (w : SaidAt g s q n p) (c : ConditionIn g n k offset true) where
   said-range : (conditionAt q n k ≡ some (range (signed (be 4 s (p + offset))) (signed (be 4 s (p + offset + 4))))) × (p + offset + 8 ≤ length s)
-  said-range = let x = here-k g s q n p k offset w c e in go (getD (nodeAt g n .variables) k noVariable) (c .type) (x .what) (x .is) (x .stands)
+  said-range = let x = here-k g s q n p k offset w c in go (getD (nodeAt g n .variables) k noVariable) (c .type) (x .what) (x .is) (x .stands)
     where
       go : (v : Variable) → isNumber v ≡ true → (d : Condition) → conditionAt q n k ≡ some d → ConditionAt s (p + offset) v d
           → (conditionAt q n k ≡ some (range (signed (be 4 s (p + offset))) (signed (be 4 s (p + offset + 4))))) × (p + offset + 8 ≤ length s)
@@ -188,9 +173,9 @@ module _ (g : List Node) (s : List ℕ) (q : Policy) (n p k offset : ℕ) (w : S
   range-inside = said-range .1
 
 -- a listed variable's mask
-module _ (g : List Node) (s : List ℕ) (q : Policy) (n p k offset : ℕ) (w : SaidAt g s q n p) (c : ConditionIn g n k offset false) (e : p ≡ 0 → ⊥) where
+module _ (g : List Node) (s : List ℕ) (q : Policy) (n p k offset : ℕ) (w : SaidAt g s q n p) (c : ConditionIn g n k offset false) where
   said-mask : (conditionAt q n k ≡ some (mask (be 4 s (p + offset)))) × (p + offset + 4 ≤ length s)
-  said-mask = let x = here-k g s q n p k offset w c e in go (getD (nodeAt g n .variables) k noVariable) (c .type) (x .what) (x .is) (x .stands)
+  said-mask = let x = here-k g s q n p k offset w c in go (getD (nodeAt g n .variables) k noVariable) (c .type) (x .what) (x .is) (x .stands)
     where
       go : (v : Variable) → isNumber v ≡ false → (d : Condition) → conditionAt q n k ≡ some d → ConditionAt s (p + offset) v d
           → (conditionAt q n k ≡ some (mask (be 4 s (p + offset)))) × (p + offset + 4 ≤ length s)

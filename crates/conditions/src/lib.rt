@@ -8,11 +8,11 @@ ghost use Rattle.numbers.specs.Bits.{ones};
 ghost use Rattle.schema.specs.Schema.{schemaOf, nodeAt, variableAt};
 ghost use Rattle.schema.specs.Table.{NodeIn};
 ghost use Rattle.policies.specs.Policies.{range, mask, policiesOf};
-ghost use Rattle.policies.specs.Pass.{forced, InForce};
+ghost use Rattle.policies.specs.Pass.{forced, Listing, InForce};
 ghost use Rattle.policies.specs.Index.{IndexIn};
 ghost use Rattle.model.specs.Reconciling.{own, both, restrictAll, combined};
 ghost use Rattle.conditions.specs.Held.{recordOf};
-ghost use Rattle.conditions.specs.Places.{found, Found, ConditionIn, fourNumbers};
+ghost use Rattle.conditions.specs.Places.{spoken, Found, ConditionIn, fourNumbers};
 use schema::Variable;
 
 // The combined conditions of one node: a range for a number, a mask for a listed variable, a place for each of four.
@@ -28,7 +28,7 @@ struct Range {
     hi: i32,
 }
 
-// Where the policies in force speak of node n.
+// Where the policies in force that have a PN of node n speak of it; how many they are.
 pub fn find(
     schema: &[u8],
     p: &[u8],
@@ -39,18 +39,26 @@ pub fn find(
     b: u16,
     n: usize,
     places: &mut [usize; 16],
-)
+) -> usize
     requires { ⌜ IndexIn (now schema) (now p) (now index) ⌝ }
     requires { ⌜ InForce (now schema) (now p) (now list) rows a b ⌝ }
     requires { ⌜ n < length (schemaOf (now schema)) ⌝ }
     requires { ⌜ length (now places) ≡ 16 ⌝ }
-    ensures { λ _. ⌜ now (places .exit) ≡ found (now (index .entry)) (now (list .entry)) n rows (now (places .entry)) ⌝ }
+    ensures { λ r. ⌜ Listing (spoken (now (index .entry)) (now (list .entry)) n rows) (now (places .entry)) (now (places .exit)) r ⌝ }
 {
+    let mut m: usize = 0;
     let mut i: usize = 0;
     while i < rows {
-        places[i] = policies::place_of(schema, p, index, list[i], n);
-        i += 1;
+        let at = policies::place_of(schema, p, index, list[i], n);
+        if at == 0 {
+            i += 1;
+        } else {
+            places[m] = at;
+            m += 1;
+            i += 1;
+        }
     }
+    m
 }
 
 // The range x, narrowed by the condition that stands at a place of the file.
@@ -88,13 +96,8 @@ fn narrow_range(
     };
     let mut r: usize = 0;
     while r < rows {
-        let at = places[r];
-        if at == 0 {
-            r += 1;
-        } else {
-            x = narrow_at(p, at + offset, x);
-            r += 1;
-        }
+        x = narrow_at(p, places[r] + offset, x);
+        r += 1;
     }
     x
 }
@@ -120,13 +123,8 @@ fn narrow_mask(
     let mut m = numbers::all_values(size);
     let mut r: usize = 0;
     while r < rows {
-        let at = places[r];
-        if at == 0 {
-            r += 1;
-        } else {
-            m = m & fields::u32_at(p, at + offset);
-            r += 1;
-        }
+        m = m & fields::u32_at(p, places[r] + offset);
+        r += 1;
     }
     m
 }
@@ -186,17 +184,12 @@ fn combine_numbers(
     let mut z = range_of(schema, table, n, 3);
     let mut r: usize = 0;
     while r < rows {
-        let at = places[r];
-        if at == 0 {
-            r += 1;
-        } else {
-            let from = at + offset;
-            w = narrow_at(p, from, w);
-            x = narrow_at(p, from + 8, x);
-            y = narrow_at(p, from + 16, y);
-            z = narrow_at(p, from + 24, z);
-            r += 1;
-        }
+        let from = places[r] + offset;
+        w = narrow_at(p, from, w);
+        x = narrow_at(p, from + 8, x);
+        y = narrow_at(p, from + 16, y);
+        z = narrow_at(p, from + 24, z);
+        r += 1;
     }
     let lo = [w.lo, x.lo, y.lo, z.lo];
     let hi = [w.hi, x.hi, y.hi, z.hi];

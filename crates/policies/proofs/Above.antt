@@ -52,7 +52,7 @@ forced-few a b (x ∷ ps) = go (inForce a b x) (forced-few a b ps)
     go true h = omega arith
     go false h = omega arith
 
-put-front : (t js : List ℕ) (i : ℕ) → i < length js → getD (put t 0 js) i 0 ≡ getD js i 0
+pub put-front : (t js : List ℕ) (i : ℕ) → i < length js → getD (put t 0 js) i 0 ≡ getD js i 0
 unfolding put
 put-front t js i h = List·getD-append js (drop (0 + length js) t) 0 i h
 

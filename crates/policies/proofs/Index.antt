@@ -12,7 +12,7 @@ use lib.ListN.{length, getD, set, replicate, length-set, length-replicate}
 use lib.Seq.{getD-set-same, getD-set-other}
 use lib.Dec.{eqb}
 use Rattle.schema.specs.Schema.{Node}
-use Rattle.policies.specs.Policies.{Rule, Policy, policyAt}
+use Rattle.policies.specs.Policies.{Rule, Policy, policyAt, hasRule}
 use Rattle.policies.specs.Index.{ruleWidth, policyWidth, fillRules, fillPolicy, fillPolicies, indexOf}
 use Rattle.policies.proofs.Sound.{SoundRules, SoundPolicy, Sound}
 
@@ -186,10 +186,6 @@ module _ (g : List Node) (ps : List Policy) (m : ℕ) (long : 16 + 16 * length g
       ∙ zero-add (headOf ps j)
 
 -- ---- which nodes have a rule
-
-unfoldable pub hasRule : ℕ → List Rule → Bool
-hasRule n [] = false
-hasRule n (x ∷ xs) = cond (eqb (x .node) n) true (hasRule n xs)
 
 place-none : (n p : ℕ) (xs : List Rule) → eqb (placeOf n p xs) 0 ≡ not (hasRule n xs)
 unfolding placeOf hasRule

@@ -108,7 +108,7 @@ pub record Compacting (ps : List Policy) (a b : ℕ) (t₀ : List ℕ) (n j : �
   pub list : put t n (positions a b j (drop j ps)) ≡ put t₀ 0 (positions a b 0 ps)
   pub count : n + length (positions a b j (drop j ps)) ≡ length (positions a b 0 ps)
 
-put-next : (t : List ℕ) (n j : ℕ) (js : List ℕ) → n + 1 ≤ length t → put (set t n j) (n + 1) js ≡ put t n (j ∷ js)
+pub put-next : (t : List ℕ) (n j : ℕ) (js : List ℕ) → n + 1 ≤ length t → put (set t n j) (n + 1) js ≡ put t n (j ∷ js)
 put-next t n j js h = ap (λ (l : List ℕ). put l (n + 1) js) (put-one t n j h) ∙ put-put t (j ∷ []) js n (omega arith)
 
 pub compact-start : (ps : List Policy) (a b : ℕ) (list : List ℕ) → length list ≡ 16 → Compacting ps a b list 0 0 list

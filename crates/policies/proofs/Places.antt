@@ -1,7 +1,7 @@
 -- What the accessors find through the index: the place of a policy's rule for a node, and what the bytes there spell.
 -- Rests on Index (what stands at each place) and on Stands (what the bytes of an accepted file spell).
 use mathlib.Core.Path.{_≡_, refl, ap, sym, _∙_, subst}
-use mathlib.Core.Bool.{Bool, true, false, cond}
+use mathlib.Core.Bool.{Bool, true, false, cond, not}
 use mathlib.Core.List.{List}
 use Prim.Native.Nat.{ℕ, zero, suc, _+_, _-_, _*_, _^_, _≤_, _<_}
 use native.Mathlib.Omega.{arith}
@@ -13,11 +13,11 @@ use lib.Dec.{eqb}
 use mir.Syntax.{w64}
 use mir.Val.{Fits}
 use Rattle.schema.specs.Schema.{Node, nodeAt, schemaOf}
-use Rattle.policies.specs.Policies.{Rule, Policy, rankCount, policiesOf, policyAt, noRule, ruleFor, rankOf}
+use Rattle.policies.specs.Policies.{Rule, Policy, rankCount, policiesOf, policyAt, noRule, hasRule, ruleFor, rankOf}
 use Rattle.policies.specs.Index.{ruleWidth, policyWidth, policyOf, Indexed, PolicyIn, RankIn}
 use Rattle.policies.proofs.Stands.{none, more, RuleAt, RulesAt, PolicyAt, PoliciesAt}
 use Rattle.policies.proofs.Sound.{stood}
-use Rattle.policies.proofs.Index.{headOf, placeOf, index-row, index-head}
+use Rattle.policies.proofs.Index.{headOf, placeOf, index-row, index-head, index-none}
 
 -- ---- a rule's place
 
@@ -119,6 +119,12 @@ module _ (schema p t : List ℕ) (j : ℕ) (w : PolicyIn schema p t j) where
         (sym (ap (λ (l : List ℕ). getD l (16 + 16 * n + j) 0) (w .index .filled)
         ∙ index-row (schemaOf schema) (policiesOf (schemaOf schema) p) (length t) (w .index .long) (stood (schemaOf schema) p .sound) j (w .below) n below))
         (place n (policy-here .rules))
+
+    -- it is 0 exactly if the policy has no rule for the node
+    pub row-none : eqb (getD t (16 + 16 * n + j) 0) 0 ≡ not (hasRule n (policyOf schema p j .rules))
+    row-none =
+        ap (λ (l : List ℕ). eqb (getD l (16 + 16 * n + j) 0) 0) (w .index .filled)
+        ∙ index-none (schemaOf schema) (policiesOf (schemaOf schema) p) (length t) (w .index .long) (stood (schemaOf schema) p .sound) j (w .below) n below
 
     -- the place lies in the file
     pub place-inside : (getD t (16 + 16 * n + j) 0 ≡ 0 → ⊥) → getD t j 0 + getD t (16 + 16 * n + j) 0 ≤ length p

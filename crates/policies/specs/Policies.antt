@@ -1,7 +1,7 @@
 -- The policies file, given the nodes of an accepted schema (01, 'Policies').
 use Prim.Native.Nat.{ℕ, zero, suc, _+_, _^_}
 use mathlib.Core.List.{List, [], _∷_}
-use mathlib.Core.Bool.{cond, _&&_}
+use mathlib.Core.Bool.{Bool, true, false, cond, _&&_}
 use lib.ListN.{length, getD, drop}
 use lib.Dec.{leb, ltb, eqb}
 use lib.IntN.{ℤ}
@@ -133,6 +133,11 @@ policyAt ps j = getD ps j noPolicy
 
 abbrev pub noRule : Rule
 noRule = record { node = 0; ranks = []; conditions = [] }
+
+-- whether it has a PN of the node
+unfoldable pub hasRule : ℕ → List Rule → Bool
+hasRule n [] = false
+hasRule n (x ∷ xs) = cond (eqb (x .node) n) true (hasRule n xs)
 
 -- its PN of the node; each policy names a node once at most
 unfoldable pub ruleFor : ℕ → List Rule → Rule

@@ -28,8 +28,6 @@ use Rattle.instances.specs.Plan.{valuesFrom}
 use Rattle.model.specs.Reconciling.{can, plan}
 use Rattle.model.proofs.Reconciler.{can-by-table, taken-by-table}
 use Rattle.order.specs.Order.{inSet}
-use Rattle.conditions.specs.Places.{found}
-use Rattle.conditions.proofs.Finding.{found-long}
 use Rattle.reconciler.specs.Plan.{metBy, choiceBy, rulesIn, NodePlanned, Planned}
 use Rattle.reconciler.specs.declared.Plan.{Plan}
 use Rattle.reconciler.specs.declared.Plan.the-variants.{Unmet, Met, Take}
@@ -47,9 +45,6 @@ node-in schema table n s h l = record { table = s .table; below = omega (arith, 
 
 pub pass-below : (schema table : List ℕ) (n : ℕ) {count : ℕ} → SchemaIn schema table count → 0 < n → n ≤ count → n - 1 < length (schemaOf schema)
 pass-below schema table n s h l = node-in schema table n s h l .below
-
-pub pass-places : (index list : List ℕ) (n rows : ℕ) (t₀ t : List ℕ) → t ≡ found index list n rows t₀ → length t₀ ≡ 16 → length t ≡ 16
-pass-places index list n rows t₀ t e l = ap length e ∙ found-long index list n rows t₀ ∙ l
 
 -- ---- one turn
 

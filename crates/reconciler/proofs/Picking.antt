@@ -1,5 +1,5 @@
 -- The column that the order picks is that of the successor which the model takes.
--- Rests on the model's ranks by column and on `best` over a strict and total order.
+-- Rests on the model's ranks by column, on `best` over a strict and total order, and on Speaking for the policies without a row.
 use mathlib.Core.Path.{_≡_, refl, ap, sym, subst, _∙_}
 use mathlib.Core.Bool.{Bool, true, not, _&&_}
 use mathlib.Core.List.{List, [], _∷_}
@@ -27,7 +27,8 @@ use Rattle.model.proofs.Successors.{IsBest, no-best, a-best, best-is, best-at, 
 use Rattle.model.proofs.Ranks.{allowed-at, better-at, better-strict, better-total}
 use Rattle.order.specs.Order.{countUp, rankIn, betterIn, allowedIn, inSet, firstColumn, Picked}
 use Rattle.order.proofs.Best.{in-strict, count-length, count-of}
-use Rattle.conditions.specs.Places.{Found}
+use Rattle.conditions.specs.Places.{speaking, Found}
+use Rattle.conditions.proofs.Speaking.{better-speaking, allowed-speaking}
 use Rattle.reconciler.specs.Plan.{Columns, Ranked, SuccessorsIn, successorIn, Chosen}
 
 -- ---- the table says what the policies say
@@ -58,8 +59,8 @@ module _ (t : List ℕ) (n : ℕ) where
 
 -- ---- the pick
 
-module _ (schema : List ℕ) (A : Sound (schemaOf schema)) (ps : List Policy) (n columns rows : ℕ) (t nodes set : List ℕ) (c : Columns schema n columns) (e : rows ≡ length ps)
-    (R : Ranked ps n rows columns t) (S : SuccessorsIn (schemaOf schema) n columns nodes set) where
+module _ (schema : List ℕ) (A : Sound (schemaOf schema)) (ps : List Policy) (n columns rows : ℕ) (t nodes set : List ℕ) (c : Columns schema n columns) (e : rows ≡ length (speaking n ps))
+    (R : Ranked (speaking n ps) n rows columns t) (S : SuccessorsIn (schemaOf schema) n columns nodes set) where
   at : ℕ → ℕ
   at k = getD (nodeAt (schemaOf schema) n .successors) k 0
 
@@ -76,16 +77,18 @@ module _ (schema : List ℕ) (A : Sound (schemaOf schema)) (ps : List Policy) (n
   unfolding betterIn at
   same-better x y h k =
       ap (λ (r : ℕ). betterBy (rankIn t) (countUp r 0) x y) e
-      ∙ better-rows t n ps 0 x y (λ i l. let z = zero-add i in
+      ∙ better-rows t n (speaking n ps) 0 x y (λ i l. let z = zero-add i in
       (ap (λ (m : ℕ). rankIn t m x) z ∙ R .ranks i x (omega arith) h, ap (λ (m : ℕ). rankIn t m y) z ∙ R .ranks i y (omega arith) k))
-      ∙ sym (better-at (schemaOf schema) A n (c .below) ps x y (in-list x h) (in-list y k))
+      ∙ sym (better-at (schemaOf schema) A n (c .below) (speaking n ps) x y (in-list x h) (in-list y k))
+      ∙ better-speaking (schemaOf schema) n (at x) (at y) ps
 
   same-allowed : (k : ℕ) → k < columns → allowedIn t rows k ≡ allowed (schemaOf schema) ps n (at k)
   unfolding allowedIn at
   same-allowed k h =
       ap (λ (r : ℕ). every (λ (i : ℕ). not (eqb (rankIn t i k) 255)) (countUp r 0)) e
-      ∙ allowed-rows t n ps 0 k (λ i l. ap (λ (m : ℕ). rankIn t m k) (zero-add i) ∙ R .ranks i k (omega arith) h)
-      ∙ sym (allowed-at (schemaOf schema) A n (c .below) ps k (in-list k h))
+      ∙ allowed-rows t n (speaking n ps) 0 k (λ i l. ap (λ (m : ℕ). rankIn t m k) (zero-add i) ∙ R .ranks i k (omega arith) h)
+      ∙ sym (allowed-at (schemaOf schema) A n (c .below) (speaking n ps) k (in-list k h))
+      ∙ allowed-speaking (schemaOf schema) n (at k) ps
 
   to-may : (k : ℕ) → k < columns → ok k ≡ true → may (at k) ≡ true
   unfolding ok may at
@@ -129,7 +132,7 @@ module _ (schema : List ℕ) (A : Sound (schemaOf schema)) (ps : List Policy) (n
       (ap (successorIn (schemaOf schema) n) (P .is) ∙ w .is, subst (λ (x : ℕ). x < 8 → x < length (nodeAt (schemaOf schema) n .successors)) (sym (P .is)) (w .inside))
 
 pub chosen-is : (schema table p : List ℕ) (a b n : ℕ) (places nodes set t : List ℕ) {rows columns r : ℕ} → NodeIn schema table n → Bytes schema → Found schema p a b n rows places → Columns schema n columns
-    → Ranked (forced a b (policiesOf (schemaOf schema) p)) n rows columns t → SuccessorsIn (schemaOf schema) n columns nodes set → Picked t rows set columns r → Chosen schema p a b n nodes r
+    → Ranked (speaking n (forced a b (policiesOf (schemaOf schema) p))) n rows columns t → SuccessorsIn (schemaOf schema) n columns nodes set → Picked t rows set columns r → Chosen schema p a b n nodes r
 chosen-is schema table p a b n places nodes set t {rows} {columns} {r} h y f c R S P =
     let w = picked-takes schema (sound schema y (let z = h .below in omega arith)) (forced a b (policiesOf (schemaOf schema) p)) n columns rows t nodes set c (f .rows-is) R S P in
     record { is = w .0; inside = w .1 }

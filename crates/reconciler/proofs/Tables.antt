@@ -1,6 +1,6 @@
--- The tables from which a successor is picked: its rows are the policies in force, its set the successors that can be met.
+-- The tables from which a successor is picked: its rows are the policies in force that speak of the node, its set the successors that can be met.
 -- Rests on the laws of a store in a list.
-use mathlib.Core.Path.{_≡_, refl, ap, sym, _∙_}
+use mathlib.Core.Path.{_≡_, refl, ap, _∙_}
 use mathlib.Core.List.{List}
 use Prim.Native.Nat.{ℕ, _+_, _*_, _^_, _≤_, _<_}
 use native.Mathlib.Omega.{arith}
@@ -12,11 +12,11 @@ use lib.ListN.{length, getD, set, length-set}
 use lib.Seq.{getD-set-same, getD-set-other}
 use Rattle.schema.specs.Schema.{Node, schemaOf, nodeAt}
 use Rattle.schema.specs.Table.{SuccessorIs}
-use Rattle.policies.specs.Policies.{Rule, Policy, rankOf, policiesOf, policyAt}
+use Rattle.policies.specs.Policies.{Policy, rankOf, policiesOf, policyAt}
 use Rattle.policies.specs.Pass.{forced}
 use Rattle.order.specs.Order.{rankIn, inSet}
-use Rattle.conditions.specs.Places.{SaidAt, Found}
-use Rattle.reconciler.specs.Plan.{Columns, Ranked, zeros, bytesFrom, RowFilled, SuccessorsIn}
+use Rattle.conditions.specs.Places.{speaking, SaidAt, Found}
+use Rattle.reconciler.specs.Plan.{Columns, Ranked, bytesFrom, RowFilled, SuccessorsIn}
 
 -- ---- one row
 
@@ -38,31 +38,22 @@ row-more f j k t₀ t {r} w h l m e =
 pub row-done : (f : ℕ → ℕ) (j k m : ℕ) (t₀ t : List ℕ) → RowFilled f j k t₀ t → m ≤ k → RowFilled f j m t₀ t
 row-done f j k m t₀ t w h = record { each = λ i a. w .each i (omega arith); before = w .before; long = w .long }
 
--- a row that has the same in the first places
-row-same : (f g : ℕ → ℕ) (j k m : ℕ) (t₀ t : List ℕ) → RowFilled f j k t₀ t → m ≤ k → ((i : ℕ) → i < m → f i ≡ g i) → RowFilled g j m t₀ t
-row-same f g j k m t₀ t w h e = record { each = λ i a. w .each i (omega arith) ∙ e i a; before = w .before; long = w .long }
-
 -- the ranks of a policy, by where it speaks of the node
 module _ (schema s : List ℕ) (q : Policy) (n at : ℕ) {columns : ℕ} (w : SaidAt (schemaOf schema) s q n at) (c : Columns schema n columns) where
-  pub row-silent : (j : ℕ) (t₀ t : List ℕ) → at ≡ 0 → RowFilled zeros j 8 t₀ t → RowFilled (rankOf q n) j columns t₀ t
-  unfolding rankOf
-  row-silent j t₀ t e r = row-same zeros (rankOf q n) j 8 columns t₀ t r (c .most) (λ i h. sym (ap (λ (x : Rule). getD (x .ranks) i 0) (w .silent e)))
+  rank-is : (k : ℕ) → k < columns → (at + k < length s) × (getD s (at + k) 0 ≡ rankOf q n k)
+  rank-is k h = w .ranks k (omega (arith, c .ranked))
 
-  module _ (e : at ≡ 0 → ⊥) where
-    rank-is : (k : ℕ) → k < columns → (at + k < length s) × (getD s (at + k) 0 ≡ rankOf q n k)
-    rank-is k h = w .ranks e k (omega (arith, c .ranked))
+  pub row-copied : (j : ℕ) (t₀ t : List ℕ) → RowFilled (bytesFrom s at) j 8 t₀ t → RowFilled (rankOf q n) j columns t₀ t
+  row-copied j t₀ t r = record { each = λ i h. r .each i (omega (arith, c .most)) ∙ rank-is i h .1; before = r .before; long = r .long }
 
-    pub row-copied : (j : ℕ) (t₀ t : List ℕ) → RowFilled (bytesFrom s at) j 8 t₀ t → RowFilled (rankOf q n) j columns t₀ t
-    row-copied j t₀ t r = row-same (bytesFrom s at) (rankOf q n) j 8 columns t₀ t r (c .most) (λ i h. rank-is i h .1)
+  pub rank-inside : (k : ℕ) → k < columns → at + k < length s
+  rank-inside k h = rank-is k h .0
 
-    pub rank-inside : (k : ℕ) → k < columns → at + k < length s
-    rank-inside k h = rank-is k h .0
+  pub rank-fits : (k : ℕ) → k < columns → length s < 2 ^ 64 → Fits w64 (at + k)
+  rank-fits k h m = record { fits = omega (arith, rank-inside k h) }
 
-    pub rank-fits : (k : ℕ) → k < columns → length s < 2 ^ 64 → Fits w64 (at + k)
-    rank-fits k h m = record { fits = omega (arith, rank-inside k h) }
-
-    pub row-next : (j k : ℕ) (t₀ t : List ℕ) → RowFilled (rankOf q n) j k t₀ t → k < columns → j < 16 → length t₀ ≡ 128 → RowFilled (rankOf q n) j (k + 1) t₀ (set t (8 * j + k) (getD s (at + k) 0))
-    row-next j k t₀ t r h l m = row-more (rankOf q n) j k t₀ t r (omega (arith, c .most)) l m (rank-is k h .1)
+  pub row-next : (j k : ℕ) (t₀ t : List ℕ) → RowFilled (rankOf q n) j k t₀ t → k < columns → j < 16 → length t₀ ≡ 128 → RowFilled (rankOf q n) j (k + 1) t₀ (set t (8 * j + k) (getD s (at + k) 0))
+  row-next j k t₀ t r h l m = row-more (rankOf q n) j k t₀ t r (omega (arith, c .most)) l m (rank-is k h .1)
 
 pub said-inside : (g : List Node) (s : List ℕ) (q : Policy) (n at : ℕ) → SaidAt g s q n at → at ≤ length s
 said-inside g s q n at w = w .inside
@@ -73,7 +64,7 @@ pub ranked-none : (ps : List Policy) (n columns : ℕ) (t : List ℕ) → length
 ranked-none ps n columns t e = record { ranks = λ j k h. absurd (omega arith); long = e }
 
 pub ranked-said : (schema p places : List ℕ) (a b n j : ℕ) {rows : ℕ} → Found schema p a b n rows places → j < rows
-    → SaidAt (schemaOf schema) p (policyAt (forced a b (policiesOf (schemaOf schema) p)) j) n (getD places j 0)
+    → SaidAt (schemaOf schema) p (policyAt (speaking n (forced a b (policiesOf (schemaOf schema) p))) j) n (getD places j 0)
 ranked-said schema p places a b n j f h = f .each j h
 
 pub ranked-more : (ps : List Policy) (n j columns : ℕ) (t u : List ℕ) → Ranked ps n j columns t → RowFilled (rankOf (policyAt ps j) n) j columns t u → columns ≤ 8 → Ranked ps n (j + 1) columns u

@@ -50,10 +50,7 @@ pub record Columns (schema : List ℕ) (n columns : ℕ) : Type 0 where
   pub ranked : columns ≡ rankCount (nodeAt (schemaOf schema) n)
   pub most : columns ≤ 8
 
--- what a row may have: zeros, the bytes of s from a place on, or a policy's ranks
-abbrev pub zeros : ℕ → ℕ
-zeros i = 0
-
+-- what a row may have: the bytes of s from a place on, or a policy's ranks
 abbrev pub bytesFrom : List ℕ → ℕ → ℕ → ℕ
 bytesFrom s at i = getD s (at + i) 0
 

@@ -12,9 +12,9 @@ ghost use Rattle.instances.specs.File.{encode};
 ghost use Rattle.instances.specs.Plan.{planned, planOf, BitsRoom};
 ghost use Rattle.model.specs.Reconciling.{combined, reconciled};
 ghost use Rattle.conditions.specs.Held.{recordOf};
-ghost use Rattle.conditions.specs.Places.{SaidAt, Found};
+ghost use Rattle.conditions.specs.Places.{speaking, SaidAt, Found};
 ghost use Rattle.calls.specs.Calls.{given, reconcilingUnder, reconciling};
-ghost use Rattle.reconciler.specs.Plan.{leftOf, LeastIn, Columns, Ranked, zeros, bytesFrom, RowFilled, SuccessorsIn, Chosen, NodePlanned, Planned, plannedIn};
+ghost use Rattle.reconciler.specs.Plan.{leftOf, LeastIn, Columns, Ranked, bytesFrom, RowFilled, SuccessorsIn, Chosen, NodePlanned, Planned, plannedIn};
 use conditions::Conditions;
 use fields::Answer;
 use fields::Step;
@@ -100,19 +100,6 @@ fn fill_values(
     least_values(schema, table, n, c, bits)
 }
 
-// Row j: eight zeros, the ranks of a policy that says nothing of the node.
-fn blank_row(j: usize, ranks: &mut [u8; 128])
-    requires { ⌜ j < 16 ⌝ }
-    requires { ⌜ length (now ranks) ≡ 128 ⌝ }
-    ensures { λ _. ⌜ RowFilled zeros j 8 (now (ranks .entry)) (now (ranks .exit)) ⌝ }
-{
-    let mut k: usize = 0;
-    while k < 8 {
-        ranks[8 * j + k] = 0;
-        k += 1;
-    }
-}
-
 // Row j: the eight bytes from a place on.
 fn copy_row(p: &[u8], at: usize, j: usize, ranks: &mut [u8; 128])
     requires { ⌜ at + 8 ≤ length (now p) ⌝ }
@@ -127,8 +114,8 @@ fn copy_row(p: &[u8], at: usize, j: usize, ranks: &mut [u8; 128])
     }
 }
 
-// Row j: the ranks of node n's successors in policy j of those in force, which speaks of the node from a place on; eight
-// bytes at once, where there are so many.
+// Row j: the ranks of node n's successors in policy j of those in force that speak of the node, which does so from a place
+// on; eight bytes at once, where there are so many.
 fn gather_row(
     schema: &[u8],
     p: &[u8],
@@ -140,16 +127,12 @@ fn gather_row(
     columns: usize,
     ranks: &mut [u8; 128],
 )
-    requires { ⌜ SaidAt (schemaOf (now schema)) (now p) (policyAt (forced a b (policiesOf (schemaOf (now schema)) (now p))) j) n at ⌝ }
+    requires { ⌜ SaidAt (schemaOf (now schema)) (now p) (policyAt (speaking n (forced a b (policiesOf (schemaOf (now schema)) (now p)))) j) n at ⌝ }
     requires { ⌜ Columns (now schema) n columns ⌝ }
     requires { ⌜ j < 16 ⌝ }
     requires { ⌜ length (now ranks) ≡ 128 ⌝ }
-    ensures { λ _. ⌜ RowFilled (rankOf (policyAt (forced a b (policiesOf (schemaOf (now (schema .entry))) (now (p .entry)))) j) n) j columns (now (ranks .entry)) (now (ranks .exit)) ⌝ }
+    ensures { λ _. ⌜ RowFilled (rankOf (policyAt (speaking n (forced a b (policiesOf (schemaOf (now (schema .entry))) (now (p .entry))))) j) n) j columns (now (ranks .entry)) (now (ranks .exit)) ⌝ }
 {
-    if at == 0 {
-        blank_row(j, ranks);
-        return;
-    }
     if 8 <= p.len() - at {
         copy_row(p, at, j, ranks);
         return;
@@ -161,7 +144,7 @@ fn gather_row(
     }
 }
 
-// The ranks of node n's successors in the policies in force.
+// The ranks of node n's successors in the policies in force that speak of it.
 fn gather(
     schema: &[u8],
     p: &[u8],
@@ -176,7 +159,7 @@ fn gather(
     requires { ⌜ Found (now schema) (now p) a b n rows (now places) ⌝ }
     requires { ⌜ Columns (now schema) n columns ⌝ }
     requires { ⌜ length (now ranks) ≡ 128 ⌝ }
-    ensures { λ _. ⌜ Ranked (forced a b (policiesOf (schemaOf (now (schema .entry))) (now (p .entry)))) n rows columns (now (ranks .exit)) ⌝ }
+    ensures { λ _. ⌜ Ranked (speaking n (forced a b (policiesOf (schemaOf (now (schema .entry))) (now (p .entry))))) n rows columns (now (ranks .exit)) ⌝ }
 {
     let mut j: usize = 0;
     while j < rows {
@@ -312,13 +295,13 @@ fn plan_all(
     let mut n = count;
     while 0 < n {
         n -= 1;
-        conditions::find(schema, p, index, list, rows, a, b, n, &mut places);
+        let found = conditions::find(schema, p, index, list, rows, a, b, n, &mut places);
         match plan_node(
             schema,
             table,
             p,
             &places,
-            rows,
+            found,
             a,
             b,
             n,

@@ -2,7 +2,7 @@
 -- Rests on the laws of a turn, in Numbers.
 use Prim.Native.Nat.{_-_}
 use Rattle.policies.specs.Policies.{range}
-use Rattle.conditions.proofs.Numbers.{Four, four-none, four-same, first-room, next-room, first-fits, next-fits, four-range, four-done}
+use Rattle.conditions.proofs.Numbers.{Four, four-none, first-room, next-room, first-fits, next-fits, four-range, four-done}
 use borrow.Author.Needs.{needs}
 use Rattle.conditions.proofs.combine_numbers.Statement.{statement}
 use Rattle.conditions.proofs.combine_numbers.Tie as tie
@@ -34,20 +34,11 @@ loop-holds c =
     let start = c .before .before .before .before .before .before .before .before in
     search (four-none, start .pre, start .good .1 .1 .0)
 
-mul-at : tie.Need-mul-at Inv-loop μ-loop
-mul-at c = search needs
+mul-from : tie.Need-mul-from Inv-loop μ-loop
+mul-from c = search needs
 
-element-copy-out-at : tie.Need-element-copy-out-at Inv-loop μ-loop
-element-copy-out-at c = search needs
-
-add-r : tie.Need-add-r Inv-loop μ-loop
-add-r c = search needs
-
-loop-less : tie.Need-loop-less Inv-loop μ-loop
-loop-less c = search needs
-
-loop-again : tie.Need-loop-again Inv-loop μ-loop
-loop-again c = search four-same
+element-copy-out-from : tie.Need-element-copy-out-from Inv-loop μ-loop
+element-copy-out-from c = search needs
 
 add-from : tie.Need-add-from Inv-loop μ-loop
 add-from c = search first-fits
@@ -73,14 +64,14 @@ add-narrow-at-3 c = search (next-fits, needs)
 narrow-at-requires-4 : tie.Need-narrow-at-requires-4 Inv-loop μ-loop
 narrow-at-requires-4 c κs = search (next-room, needs)
 
-add-r-2 : tie.Need-add-r-2 Inv-loop μ-loop
-add-r-2 c = search needs
+add-r : tie.Need-add-r Inv-loop μ-loop
+add-r c = search needs
 
-loop-less-2 : tie.Need-loop-less-2 Inv-loop μ-loop
-loop-less-2 c = search needs
+loop-less : tie.Need-loop-less Inv-loop μ-loop
+loop-less c = search needs
 
-loop-again-2 : tie.Need-loop-again-2 Inv-loop μ-loop
-loop-again-2 c = search four-range
+loop-again : tie.Need-loop-again Inv-loop μ-loop
+loop-again c = search four-range
 
 returns : tie.Need-returns Inv-loop μ-loop
 returns c = search four-done
@@ -97,11 +88,8 @@ combine-numbers-spec =
     range-of-requires-3
     range-of-requires-4
     loop-holds
-    mul-at
-    element-copy-out-at
-    add-r
-    loop-less
-    loop-again
+    mul-from
+    element-copy-out-from
     add-from
     narrow-at-requires
     add-narrow-at
@@ -110,7 +98,7 @@ combine-numbers-spec =
     narrow-at-requires-3
     add-narrow-at-3
     narrow-at-requires-4
-    add-r-2
-    loop-less-2
-    loop-again-2
+    add-r
+    loop-less
+    loop-again
     returns)

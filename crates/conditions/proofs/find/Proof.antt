@@ -1,7 +1,7 @@
 -- The rows from here on are left.
 -- Rests on the laws of a row, in Finding.
 use Prim.Native.Nat.{_-_}
-use Rattle.conditions.proofs.Finding.{Finding, finding-none, finding-more, finding-done}
+use Rattle.conditions.proofs.Finding.{Finding, finding-none, finding-same, finding-more, finding-room, finding-done}
 use Rattle.policies.proofs.Above.{force-few, force-in, force-row}
 use native.Mathlib.Omega.{arith}
 use borrow.Author.Needs.{needs}
@@ -9,10 +9,10 @@ use Rattle.conditions.proofs.find.Statement.{statement}
 use Rattle.conditions.proofs.find.Tie as tie
 
 abbrev Inv-loop : tie.InvT-loop
-Inv-loop schema p index list rows a b n places₀ i₀ places i = Finding index list n rows i places₀ places
+Inv-loop schema p index list rows a b n places₀ m₀ i₀ places m i = Finding index list n rows i places₀ m places
 
 abbrev μ-loop : tie.MeasureT-loop
-μ-loop schema p index list rows a b n places₀ i₀ places i = rows - i
+μ-loop schema p index list rows a b n places₀ m₀ i₀ places m i = rows - i
 
 loop-holds : tie.Need-loop-holds Inv-loop μ-loop
 loop-holds c = search finding-none
@@ -26,12 +26,6 @@ element-copy-out-place-of c = search force-row
 place-of-requires : tie.Need-place-of-requires Inv-loop μ-loop
 place-of-requires c κs = (search force-in, search needs)
 
-mul-places : tie.Need-mul-places Inv-loop μ-loop
-mul-places c = omega (arith, force-few)
-
-element-write-places : tie.Need-element-write-places Inv-loop μ-loop
-element-write-places c = search force-row
-
 add-i : tie.Need-add-i Inv-loop μ-loop
 add-i c = search needs
 
@@ -39,7 +33,25 @@ loop-less : tie.Need-loop-less Inv-loop μ-loop
 loop-less c = search needs
 
 loop-again : tie.Need-loop-again Inv-loop μ-loop
-loop-again c = search finding-more
+loop-again c = search finding-same
+
+mul-places : tie.Need-mul-places Inv-loop μ-loop
+mul-places c = omega (arith, force-few)
+
+element-write-places : tie.Need-element-write-places Inv-loop μ-loop
+element-write-places c = search (finding-room, force-few)
+
+add-m : tie.Need-add-m Inv-loop μ-loop
+add-m c = search needs
+
+add-i-2 : tie.Need-add-i-2 Inv-loop μ-loop
+add-i-2 c = search needs
+
+loop-less-2 : tie.Need-loop-less-2 Inv-loop μ-loop
+loop-less-2 c = search needs
+
+loop-again-2 : tie.Need-loop-again-2 Inv-loop μ-loop
+loop-again-2 c = search (finding-more, force-few)
 
 returns : tie.Need-returns Inv-loop μ-loop
 returns c = search finding-done
@@ -54,9 +66,13 @@ find-spec =
     mul-place-of
     element-copy-out-place-of
     place-of-requires
-    mul-places
-    element-write-places
     add-i
     loop-less
     loop-again
+    mul-places
+    element-write-places
+    add-m
+    add-i-2
+    loop-less-2
+    loop-again-2
     returns)

@@ -5,13 +5,14 @@ use Rattle.numbers.specs.Bits.{ones}
 use Rattle.schema.specs.Schema.{schemaOf}
 use Rattle.policies.specs.Policies.{mask, policiesOf}
 use Rattle.policies.specs.Pass.{forced}
-use Rattle.conditions.proofs.Narrowing.{Narrowing, narrowing-mask-none, narrowing-same, mask-room, mask-fits, narrowing-mask, narrowing-done}
+use Rattle.conditions.specs.Places.{speaking}
+use Rattle.conditions.proofs.Narrowing.{Narrowing, narrowing-mask-none, mask-room, mask-fits, narrowing-mask, narrowing-done}
 use borrow.Author.Needs.{needs}
 use Rattle.conditions.proofs.narrow_mask.Statement.{statement}
 use Rattle.conditions.proofs.narrow_mask.Tie as tie
 
 abbrev Inv-loop : tie.InvT-loop
-Inv-loop schema p places rows a b n k offset size m₀ r₀ m r = Narrowing (forced a b (policiesOf (schemaOf schema) p)) n k (mask (ones size)) r (mask m)
+Inv-loop schema p places rows a b n k offset size m₀ r₀ m r = Narrowing (speaking n (forced a b (policiesOf (schemaOf schema) p))) n k (mask (ones size)) r (mask m)
 
 abbrev μ-loop : tie.MeasureT-loop
 μ-loop schema p places rows a b n k offset size m₀ r₀ m r = rows - r
@@ -22,11 +23,17 @@ all-values-requires c κs = search needs
 loop-holds : tie.Need-loop-holds Inv-loop μ-loop
 loop-holds c = search narrowing-mask-none
 
-mul-at : tie.Need-mul-at Inv-loop μ-loop
-mul-at c = search needs
+mul-u32-at : tie.Need-mul-u32-at Inv-loop μ-loop
+mul-u32-at c = search needs
 
-element-copy-out-at : tie.Need-element-copy-out-at Inv-loop μ-loop
-element-copy-out-at c = search needs
+element-copy-out-u32-at : tie.Need-element-copy-out-u32-at Inv-loop μ-loop
+element-copy-out-u32-at c = search needs
+
+add-u32-at : tie.Need-add-u32-at Inv-loop μ-loop
+add-u32-at c = search (mask-fits, needs)
+
+u32-at-requires : tie.Need-u32-at-requires Inv-loop μ-loop
+u32-at-requires c κs = search mask-room
 
 add-r : tie.Need-add-r Inv-loop μ-loop
 add-r c = search needs
@@ -35,22 +42,7 @@ loop-less : tie.Need-loop-less Inv-loop μ-loop
 loop-less c = search needs
 
 loop-again : tie.Need-loop-again Inv-loop μ-loop
-loop-again c = search narrowing-same
-
-add-u32-at : tie.Need-add-u32-at Inv-loop μ-loop
-add-u32-at c = search (mask-fits, needs)
-
-u32-at-requires : tie.Need-u32-at-requires Inv-loop μ-loop
-u32-at-requires c κs = search mask-room
-
-add-r-2 : tie.Need-add-r-2 Inv-loop μ-loop
-add-r-2 c = search needs
-
-loop-less-2 : tie.Need-loop-less-2 Inv-loop μ-loop
-loop-less-2 c = search needs
-
-loop-again-2 : tie.Need-loop-again-2 Inv-loop μ-loop
-loop-again-2 c = search narrowing-mask
+loop-again c = search narrowing-mask
 
 returns : tie.Need-returns Inv-loop μ-loop
 returns c = search narrowing-done
@@ -63,14 +55,11 @@ narrow-mask-spec =
     μ-loop
     all-values-requires
     loop-holds
-    mul-at
-    element-copy-out-at
+    mul-u32-at
+    element-copy-out-u32-at
+    add-u32-at
+    u32-at-requires
     add-r
     loop-less
     loop-again
-    add-u32-at
-    u32-at-requires
-    add-r-2
-    loop-less-2
-    loop-again-2
     returns)

@@ -4,13 +4,14 @@ use Prim.Native.Nat.{_-_}
 use Rattle.schema.specs.Schema.{schemaOf}
 use Rattle.policies.specs.Policies.{range, policiesOf}
 use Rattle.policies.specs.Pass.{forced}
-use Rattle.conditions.proofs.Narrowing.{Narrowing, narrowing-none, narrowing-same, range-room, range-fits, narrowing-range, narrowing-bounds}
+use Rattle.conditions.specs.Places.{speaking}
+use Rattle.conditions.proofs.Narrowing.{Narrowing, narrowing-none, range-room, range-fits, narrowing-range, narrowing-bounds}
 use borrow.Author.Needs.{needs}
 use Rattle.conditions.proofs.narrow_range.Statement.{statement}
 use Rattle.conditions.proofs.narrow_range.Tie as tie
 
 abbrev Inv-loop : tie.InvT-loop
-Inv-loop schema p places rows a b n k offset least most x₀ r₀ x r = Narrowing (forced a b (policiesOf (schemaOf schema) p)) n k (range (x₀ .lo) (x₀ .hi)) r (range (x .lo) (x .hi))
+Inv-loop schema p places rows a b n k offset least most x₀ r₀ x r = Narrowing (speaking n (forced a b (policiesOf (schemaOf schema) p))) n k (range (x₀ .lo) (x₀ .hi)) r (range (x .lo) (x .hi))
 
 abbrev μ-loop : tie.MeasureT-loop
 μ-loop schema p places rows a b n k offset least most x₀ r₀ x r = rows - r
@@ -18,11 +19,17 @@ abbrev μ-loop : tie.MeasureT-loop
 loop-holds : tie.Need-loop-holds Inv-loop μ-loop
 loop-holds c = search narrowing-none
 
-mul-at : tie.Need-mul-at Inv-loop μ-loop
-mul-at c = search needs
+mul-narrow-at : tie.Need-mul-narrow-at Inv-loop μ-loop
+mul-narrow-at c = search needs
 
-element-copy-out-at : tie.Need-element-copy-out-at Inv-loop μ-loop
-element-copy-out-at c = search needs
+element-copy-out-narrow-at : tie.Need-element-copy-out-narrow-at Inv-loop μ-loop
+element-copy-out-narrow-at c = search needs
+
+add-narrow-at : tie.Need-add-narrow-at Inv-loop μ-loop
+add-narrow-at c = search (range-fits, needs)
+
+narrow-at-requires : tie.Need-narrow-at-requires Inv-loop μ-loop
+narrow-at-requires c κs = search range-room
 
 add-r : tie.Need-add-r Inv-loop μ-loop
 add-r c = search needs
@@ -31,22 +38,7 @@ loop-less : tie.Need-loop-less Inv-loop μ-loop
 loop-less c = search needs
 
 loop-again : tie.Need-loop-again Inv-loop μ-loop
-loop-again c = search narrowing-same
-
-add-narrow-at : tie.Need-add-narrow-at Inv-loop μ-loop
-add-narrow-at c = search (range-fits, needs)
-
-narrow-at-requires : tie.Need-narrow-at-requires Inv-loop μ-loop
-narrow-at-requires c κs = search range-room
-
-add-r-2 : tie.Need-add-r-2 Inv-loop μ-loop
-add-r-2 c = search needs
-
-loop-less-2 : tie.Need-loop-less-2 Inv-loop μ-loop
-loop-less-2 c = search needs
-
-loop-again-2 : tie.Need-loop-again-2 Inv-loop μ-loop
-loop-again-2 c = search narrowing-range
+loop-again c = search narrowing-range
 
 returns : tie.Need-returns Inv-loop μ-loop
 returns c = search narrowing-bounds
@@ -58,14 +50,11 @@ narrow-range-spec =
     Inv-loop
     μ-loop
     loop-holds
-    mul-at
-    element-copy-out-at
+    mul-narrow-at
+    element-copy-out-narrow-at
+    add-narrow-at
+    narrow-at-requires
     add-r
     loop-less
     loop-again
-    add-narrow-at
-    narrow-at-requires
-    add-r-2
-    loop-less-2
-    loop-again-2
     returns)

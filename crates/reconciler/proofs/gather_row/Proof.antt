@@ -1,35 +1,30 @@
--- The columns passed have their ranks; zeros are those of a policy that says nothing, and eight bytes have them all.
+-- The columns passed have their ranks; eight bytes have them all.
 -- Rests on the laws of one row, in Tables.
 use Prim.Native.Nat.{_-_}
 use Rattle.schema.specs.Schema.{schemaOf}
 use Rattle.policies.specs.Policies.{policiesOf, policyAt, rankOf}
 use Rattle.policies.specs.Pass.{forced}
+use Rattle.conditions.specs.Places.{speaking}
 use Rattle.reconciler.specs.Plan.{RowFilled}
-use Rattle.reconciler.proofs.Tables.{row-none, row-done, row-silent, row-copied, rank-inside, rank-fits, row-next, said-inside}
+use Rattle.reconciler.proofs.Tables.{row-none, row-done, row-copied, rank-inside, rank-fits, row-next, said-inside}
 use borrow.Author.Needs.{needs}
 use Rattle.reconciler.proofs.gather_row.Statement.{statement}
 use Rattle.reconciler.proofs.gather_row.Tie as tie
 
 abbrev Inv-loop : tie.InvT-loop
-Inv-loop schema p a b j n at columns ranks₀ k₀ ranks k = RowFilled (rankOf (policyAt (forced a b (policiesOf (schemaOf schema) p)) j) n) j k ranks₀ ranks
+Inv-loop schema p a b j n at columns ranks₀ k₀ ranks k = RowFilled (rankOf (policyAt (speaking n (forced a b (policiesOf (schemaOf schema) p))) j) n) j k ranks₀ ranks
 
 abbrev μ-loop : tie.MeasureT-loop
 μ-loop schema p a b j n at columns ranks₀ k₀ ranks k = columns - k
 
-blank-row-requires : tie.Need-blank-row-requires Inv-loop μ-loop
-blank-row-requires c κs = search needs
-
-returns : tie.Need-returns Inv-loop μ-loop
-returns c = search row-silent
-
-sub-if2 : tie.Need-sub-if2 Inv-loop μ-loop
-sub-if2 c = search said-inside
+sub-if1 : tie.Need-sub-if1 Inv-loop μ-loop
+sub-if1 c = search said-inside
 
 copy-row-requires : tie.Need-copy-row-requires Inv-loop μ-loop
 copy-row-requires c κs = search needs
 
-returns-2 : tie.Need-returns-2 Inv-loop μ-loop
-returns-2 c = search row-copied
+returns : tie.Need-returns Inv-loop μ-loop
+returns c = search row-copied
 
 loop-holds : tie.Need-loop-holds Inv-loop μ-loop
 loop-holds c = search row-none
@@ -58,8 +53,8 @@ loop-less c = search needs
 loop-again : tie.Need-loop-again Inv-loop μ-loop
 loop-again c = search row-next
 
-returns-3 : tie.Need-returns-3 Inv-loop μ-loop
-returns-3 c = search row-done
+returns-2 : tie.Need-returns-2 Inv-loop μ-loop
+returns-2 c = search row-done
 
 pub gather-row-spec : {M : Type 1} → statement M
 gather-row-spec =
@@ -67,11 +62,9 @@ gather-row-spec =
     (tie.spec
     Inv-loop
     μ-loop
-    blank-row-requires
-    returns
-    sub-if2
+    sub-if1
     copy-row-requires
-    returns-2
+    returns
     loop-holds
     add-ranks
     shared-slice-read-ranks
@@ -81,4 +74,4 @@ gather-row-spec =
     add-k
     loop-less
     loop-again
-    returns-3)
+    returns-2)

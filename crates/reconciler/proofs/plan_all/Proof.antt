@@ -3,9 +3,9 @@
 use mathlib.Core.Path.{_≡_, _∙_}
 use Prim.Native.Nat.{_≤_}
 use lib.ListN.{length}
-use Rattle.conditions.proofs.Finding.{found-is}
+use Rattle.conditions.proofs.Finding.{found-is, found-long}
 use Rattle.reconciler.specs.Plan.{Planned}
-use Rattle.reconciler.proofs.Passes.{node-in, pass-below, pass-place, pass-places, pass-unmet, pass-met, pass-take, pass-small, pass-done}
+use Rattle.reconciler.proofs.Passes.{node-in, pass-below, pass-place, pass-unmet, pass-met, pass-take, pass-small, pass-done}
 use borrow.Author.Needs.{needs}
 use Rattle.reconciler.proofs.plan_all.Statement.{statement}
 use Rattle.reconciler.proofs.plan_all.Tie as tie
@@ -33,7 +33,7 @@ plan-node-requires c κs =
     let loop = turn .before in
     let start = loop .before .before .before .before .before .before in
     let node = node-in _ _ _ (start .pre .0) (turn .loop-test .taken) (loop .loop .inv .1) in
-    (node, (found-is _ _ _ _ _ _ _ _ _ _ node (start .pre .1 .0) (start .pre .1 .1 .0) (loop .loop .inv .3) (found .find .ensures), (search needs, search needs)))
+    (node, (found-is _ _ _ _ _ _ _ (start .pre .1 .1 .0) (node .below) (start .pre .1 .0) _ _ (found .find .ensures), (search needs, search needs)))
 
 enum-told : tie.Need-enum-told Inv-loop μ-loop
 enum-told c = search needs
@@ -44,10 +44,11 @@ loop-less c = search needs
 loop-again : tie.Need-loop-again Inv-loop μ-loop
 loop-again c =
     let done = c .before .before .before .before in
-    let turn = done .before .before .before .before .before .before .before in
+    let found = done .before .before .before .before .before in
+    let turn = found .before .before in
     let loop = turn .before in
     let known = loop .before .before .before .before .before in
-    (pass-unmet _ _ _ _ _ _ _ _ _ _ (known .shared-slice-known .given) (known .before .pre .0) (loop .loop .inv .0) (turn .loop-test .taken) (loop .loop .inv .1) (done .plan-node .ensures .0) (c .enum-told .given .1), search needs, done .plan-node .ensures .0 .long ∙ loop .loop .inv .2, search pass-places, search needs)
+    (pass-unmet _ _ _ _ _ _ _ _ _ _ (known .shared-slice-known .given) (known .before .pre .0) (loop .loop .inv .0) (turn .loop-test .taken) (loop .loop .inv .1) (done .plan-node .ensures .0) (c .enum-told .given .1), search needs, done .plan-node .ensures .0 .long ∙ loop .loop .inv .2, found-long _ _ _ _ _ _ _ (known .before .pre .1 .1 .0) _ _ (found .find .ensures) (loop .loop .inv .3), search needs)
 
 enum-told-2 : tie.Need-enum-told-2 Inv-loop μ-loop
 enum-told-2 c = search needs
@@ -61,10 +62,11 @@ loop-less-2 c = search needs
 loop-again-2 : tie.Need-loop-again-2 Inv-loop μ-loop
 loop-again-2 c =
     let done = c .before .before .before .before in
-    let turn = done .before .before .before .before .before .before .before in
+    let found = done .before .before .before .before .before in
+    let turn = found .before .before in
     let loop = turn .before in
     let known = loop .before .before .before .before .before in
-    (pass-met _ _ _ _ _ _ _ _ _ _ (known .shared-slice-known .given) (known .before .pre .0) (loop .loop .inv .0) (turn .loop-test .taken) (loop .loop .inv .1) (done .plan-node .ensures .0) (c .enum-told2 .given .1), search needs, done .plan-node .ensures .0 .long ∙ loop .loop .inv .2, search pass-places, search needs)
+    (pass-met _ _ _ _ _ _ _ _ _ _ (known .shared-slice-known .given) (known .before .pre .0) (loop .loop .inv .0) (turn .loop-test .taken) (loop .loop .inv .1) (done .plan-node .ensures .0) (c .enum-told2 .given .1), search needs, done .plan-node .ensures .0 .long ∙ loop .loop .inv .2, found-long _ _ _ _ _ _ _ (known .before .pre .1 .1 .0) _ _ (found .find .ensures) (loop .loop .inv .3), search needs)
 
 enum-known-successor : tie.Need-enum-known-successor Inv-loop μ-loop
 enum-known-successor c = search needs
@@ -72,7 +74,8 @@ enum-known-successor c = search needs
 cast-choices : tie.Need-cast-choices Inv-loop μ-loop
 cast-choices c =
     let done = c .before .before .before .before .before in
-    let turn = done .before .before .before .before .before .before .before in
+    let found = done .before .before .before .before .before in
+    let turn = found .before .before in
     let loop = turn .before in
     let known = loop .before .before .before .before .before in
     record { fits = pass-small _ _ _ _ _ _ _ _ _ _ (known .shared-slice-known .given) (known .before .pre .0) (loop .loop .inv .0) (turn .loop-test .taken) (loop .loop .inv .1) (done .plan-node .ensures .0) (c .before .successor .given .1) }
@@ -89,10 +92,11 @@ loop-less-3 c = search needs
 loop-again-3 : tie.Need-loop-again-3 Inv-loop μ-loop
 loop-again-3 c =
     let done = c .before .before .before .before .before in
-    let turn = done .before .before .before .before .before .before .before in
+    let found = done .before .before .before .before .before in
+    let turn = found .before .before in
     let loop = turn .before in
     let known = loop .before .before .before .before .before in
-    (pass-take _ _ _ _ _ _ _ _ _ _ (known .shared-slice-known .given) (known .before .pre .0) (loop .loop .inv .0) (turn .loop-test .taken) (loop .loop .inv .1) (done .plan-node .ensures .0) (c .before .successor .given .1), search needs, done .plan-node .ensures .0 .long ∙ loop .loop .inv .2, search pass-places, search needs)
+    (pass-take _ _ _ _ _ _ _ _ _ _ (known .shared-slice-known .given) (known .before .pre .0) (loop .loop .inv .0) (turn .loop-test .taken) (loop .loop .inv .1) (done .plan-node .ensures .0) (c .before .successor .given .1), search needs, done .plan-node .ensures .0 .long ∙ loop .loop .inv .2, found-long _ _ _ _ _ _ _ (known .before .pre .1 .1 .0) _ _ (found .find .ensures) (loop .loop .inv .3), search needs)
 
 same-length : tie.Need-same-length Inv-loop μ-loop
 same-length c = search needs
