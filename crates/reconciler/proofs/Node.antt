@@ -30,12 +30,15 @@ use Rattle.reconciler.specs.Plan.{LeastIn, Columns, successorIn, Chosen,
 use Rattle.reconciler.specs.declared.Plan.the-variants.{Unmet, Met, Take}
 
 -- a node that chooses has a rank for each successor
-pub node-columns : (schema table : List ℕ) (n : ℕ) {columns : ℕ} {t : Bool} → NodeIn schema table n → AtMost 8 (length (nodeAt (schemaOf schema) n .successors)) columns
-    → t ≡ chooses (nodeAt (schemaOf schema) n) → t ≡ true → Columns schema n columns
+pub node-columns : (schema table : List ℕ) (n : ℕ) {columns : ℕ} → NodeIn schema table n → AtMost 8 (length (nodeAt (schemaOf schema) n .successors)) columns
+    → chooses (nodeAt (schemaOf schema) n) ≡ true → Columns schema n columns
 unfolding chooses rankCount
-node-columns schema table n h m e q =
-    let z = and-true (eqb (nodeAt (schemaOf schema) n .kind) 1) (ltb 0 (length (nodeAt (schemaOf schema) n .successors))) (sym e ∙ q) in
+node-columns schema table n h m q =
+    let z = and-true (eqb (nodeAt (schemaOf schema) n .kind) 1) (ltb 0 (length (nodeAt (schemaOf schema) n .successors))) q in
     record { below = h .below; is = m .is; ranked = m .is ∙ rw (z .0); most = m .most }
+
+pub node-chooses : (schema : List ℕ) (n : ℕ) {t : Bool} → t ≡ chooses (nodeAt (schemaOf schema) n) → t ≡ true → chooses (nodeAt (schemaOf schema) n) ≡ true
+node-chooses schema n e q = sym e ∙ q
 
 module _ (schema table p : List ℕ) (a b n : ℕ) (nodes t₀ t : List ℕ) (h : NodeIn schema table n) where
   abbrev c : Conditions

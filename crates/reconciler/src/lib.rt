@@ -1,13 +1,15 @@
 // The reconciler: nodes from the highest to 0, each once; then the reached ones from 0 up.
 ghost use mathlib.Core.Path.{_≡_};
+ghost use mathlib.Core.Bool.{true};
 ghost use Prim.Native.Nat.{_+_, _*_, _<_, _≤_};
 ghost use lib.ListN.{length};
-ghost use Rattle.schema.specs.Schema.{schemaOf};
+ghost use Rattle.schema.specs.Schema.{schemaOf, nodeAt};
 ghost use Rattle.fields.specs.Outcomes.{Did, placed};
 ghost use Rattle.schema.specs.Table.{NodeIn, Accepted, Tabled, Room, AtMost};
 ghost use Rattle.policies.specs.Policies.{policiesOf, policyAt, rankOf};
 ghost use Rattle.policies.specs.Pass.{forced, InForce};
 ghost use Rattle.policies.specs.Index.{IndexIn, Indexed, IndexRoom, SchemaIn};
+ghost use Rattle.instances.specs.Instance.{chooses};
 ghost use Rattle.instances.specs.File.{encode};
 ghost use Rattle.instances.specs.Plan.{planned, planOf, BitsRoom};
 ghost use Rattle.model.specs.Reconciling.{combined, reconciled};
@@ -200,17 +202,17 @@ fn choose(
     a: u16,
     b: u16,
     n: usize,
-    columns: usize,
     nodes: &[u8; 64],
     ranks: &mut [u8; 128],
 ) -> usize
     requires { ⌜ NodeIn (now schema) (now table) n ⌝ }
     requires { ⌜ Found (now schema) (now p) a b n rows (now places) ⌝ }
-    requires { ⌜ Columns (now schema) n columns ⌝ }
+    requires { ⌜ chooses (nodeAt (schemaOf (now schema)) n) ≡ true ⌝ }
     requires { ⌜ length (now ranks) ≡ 128 ⌝ }
     ensures { λ r. ⌜ Chosen (now (schema .entry)) (now (p .entry)) a b n (now (nodes .entry)) r ⌝ }
     ensures { λ _. ⌜ length (now (ranks .exit)) ≡ 128 ⌝ }
 {
+    let columns = nodes::successor_count(schema, table, n);
     gather(schema, p, places, rows, a, b, n, columns, ranks);
     let mut set = [0u8; 8];
     fill_set(schema, table, n, columns, nodes, &mut set);
@@ -240,20 +242,7 @@ fn plan_node(
 {
     if fill_values(schema, table, p, places, rows, a, b, n, bits) {
         if instances::chooses(schema, table, n) {
-            let columns = nodes::successor_count(schema, table, n);
-            let k = choose(
-                schema,
-                table,
-                p,
-                places,
-                rows,
-                a,
-                b,
-                n,
-                columns,
-                nodes,
-                ranks,
-            );
+            let k = choose(schema, table, p, places, rows, a, b, n, nodes, ranks);
             if k < 8 {
                 return Plan::Take {
                     successor: nodes::successor_of(schema, table, n, k),
@@ -269,7 +258,47 @@ fn plan_node(
     Plan::Unmet
 }
 
-// What is done at each node, from the highest to 0; one table of places and one of ranks serve them all.
+// What is done at each node, from the highest to 0; places and ranks are lent, and filled anew for each.
+fn plan_each(
+    schema: &[u8],
+    table: &[usize],
+    count: usize,
+    p: &[u8],
+    index: &[usize],
+    list: &[usize; 16],
+    rows: usize,
+    a: u16,
+    b: u16,
+    places: &mut [usize; 16],
+    ranks: &mut [u8; 128],
+    nodes: &mut [u8; 64],
+    choices: &mut [u8; 64],
+    bits: &mut [u32],
+)
+    requires { ⌜ SchemaIn (now schema) (now table) count ⌝ }
+    requires { ⌜ IndexIn (now schema) (now p) (now index) ⌝ }
+    requires { ⌜ InForce (now schema) (now p) (now list) rows a b ⌝ }
+    requires { ⌜ length (now places) ≡ 16 ⌝ }
+    requires { ⌜ length (now ranks) ≡ 128 ⌝ }
+    requires { ⌜ Planned (now schema) (now p) a b count (now nodes) (now choices) (now bits) ⌝ }
+    ensures { λ _. ⌜ Planned (now (schema .entry)) (now (p .entry)) a b 0 (now (nodes .exit)) (now (choices .exit)) (now (bits .exit)) ⌝ }
+{
+    let mut n = count;
+    while 0 < n {
+        n -= 1;
+        let found = conditions::find(schema, p, index, list, rows, a, b, n, places);
+        match plan_node(schema, table, p, places, found, a, b, n, nodes, ranks, bits) {
+            Plan::Unmet => {}
+            Plan::Met => nodes[n] = 1,
+            Plan::Take { successor } => {
+                choices[n] = successor as u8;
+                nodes[n] = 1;
+            }
+        }
+    }
+}
+
+// What is done at each node; one table of places and one of ranks serve them all.
 fn plan_all(
     schema: &[u8],
     table: &[usize],
@@ -292,33 +321,22 @@ fn plan_all(
 {
     let mut places = [0usize; 16];
     let mut ranks = [0u8; 128];
-    let mut n = count;
-    while 0 < n {
-        n -= 1;
-        let found = conditions::find(schema, p, index, list, rows, a, b, n, &mut places);
-        match plan_node(
-            schema,
-            table,
-            p,
-            &places,
-            found,
-            a,
-            b,
-            n,
-            nodes,
-            &mut ranks,
-            bits,
-        ) {
-            Plan::Unmet => {}
-            Plan::Met => {
-                nodes[n] = 1;
-            }
-            Plan::Take { successor } => {
-                choices[n] = successor as u8;
-                nodes[n] = 1;
-            }
-        }
-    }
+    plan_each(
+        schema,
+        table,
+        count,
+        p,
+        index,
+        list,
+        rows,
+        a,
+        b,
+        &mut places,
+        &mut ranks,
+        nodes,
+        choices,
+        bits,
+    );
 }
 
 // The file of the plan that the tables hold, by way of a local one, since the buffer may be shorter.

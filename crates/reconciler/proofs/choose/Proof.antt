@@ -1,21 +1,27 @@
 -- The ranks and the set are filled, and the order picks.
 -- Rests on chosen-is.
+use Rattle.reconciler.proofs.Node.{node-columns}
 use Rattle.reconciler.proofs.Picking.{chosen-is}
 use borrow.Author.Needs.{needs}
 use Rattle.reconciler.proofs.choose.Statement.{statement}
 use Rattle.reconciler.proofs.choose.Tie as tie
 
+successor-count-requires : tie.Need-successor-count-requires
+successor-count-requires c κs = search needs
+
 gather-requires : tie.Need-gather-requires
-gather-requires c κs = search needs
+gather-requires c κs = (search needs, (search node-columns, search needs))
 
 fill-set-requires : tie.Need-fill-set-requires
-fill-set-requires c κs = search needs
+fill-set-requires c κs = (search needs, (search node-columns, search needs))
 
 pick-requires : tie.Need-pick-requires
 pick-requires c κs = search needs
 
 returns : tie.Need-returns
-returns c = (search chosen-is, search needs)
+returns c = (search (chosen-is, node-columns), search needs)
 
 pub choose-spec : {M : Type 1} → statement M
-choose-spec = tie.close (tie.spec gather-requires fill-set-requires pick-requires returns)
+choose-spec =
+    tie.close
+    (tie.spec successor-count-requires gather-requires fill-set-requires pick-requires returns)

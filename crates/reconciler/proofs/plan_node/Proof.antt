@@ -1,6 +1,6 @@
 -- Each return is one case of the model's step.
 -- Rests on the laws of one node, in Node.
-use Rattle.reconciler.proofs.Node.{chosen-inside, node-columns, node-empty, node-take, node-none, node-met, node-some-unmet}
+use Rattle.reconciler.proofs.Node.{chosen-inside, node-chooses, node-empty, node-take, node-none, node-met, node-some-unmet}
 use borrow.Author.Needs.{needs}
 use Rattle.reconciler.proofs.plan_node.Statement.{statement}
 use Rattle.reconciler.proofs.plan_node.Tie as tie
@@ -11,11 +11,8 @@ fill-values-requires c κs = search needs
 chooses-requires : tie.Need-chooses-requires
 chooses-requires c κs = search needs
 
-successor-count-requires : tie.Need-successor-count-requires
-successor-count-requires c κs = search needs
-
 choose-requires : tie.Need-choose-requires
-choose-requires c κs = (search needs, (search needs, (search node-columns, search needs)))
+choose-requires c κs = (search needs, (search needs, (search node-chooses, search needs)))
 
 successor-of-requires : tie.Need-successor-of-requires
 successor-of-requires c κs = (search needs, search chosen-inside)
@@ -59,7 +56,6 @@ plan-node-spec =
     (tie.spec
     fill-values-requires
     chooses-requires
-    successor-count-requires
     choose-requires
     successor-of-requires
     same-length
