@@ -13,7 +13,8 @@ use Rattle.fields.proofs.Reading.{stepped, stopped}
 use Rattle.schema.specs.Schema.{Node, schema, schemaOf}
 use Rattle.schema.proofs.Accepted.{schema-got}
 use Rattle.policies.specs.Policies.{Policy, policiesOf}
-use Rattle.policies.specs.Pass.{pass, forced}
+use Rattle.policies.specs.Pass.{pass, forced, positions, Listing, selected}
+use Rattle.policies.proofs.Above.{selects-forced}
 use Rattle.policy_reader.specs.Answers.{Told}
 use Rattle.policy_reader.specs.declared.PoliciesRead.{PoliciesRead}
 use Rattle.policy_reader.specs.declared.PoliciesRead.the-variants.{Policies, Refused}
@@ -45,6 +46,18 @@ module _ (o : Option ℕ) {x : Forbidden} (e : x ≡ forbiddenIn o) where
       go : (o : Option ℕ) → forbiddenIn o ≡ At q → refusal 18 4 q ≡ permitted o
       go none h = absurd (let z : _≡_ {A = ℕ} 0 1 = cc in omega arith)
       go (some r) h = let z : q ≡ r = cc in ap (refusal 18 4) z
+
+-- where those listed are the policies in force
+module _ (s p : List ℕ) (a b : ℕ) (l₀ l i : List ℕ) {rows : ℕ} (k : Listing (positions a b 0 (policiesOf (schemaOf s) p)) l₀ l rows) {x : Forbidden}
+    (e : x ≡ forbiddenIn (forbidden (schemaOf s) (selected s p l rows) (instanceOf (schemaOf s) i))) where
+  in-force : x ≡ forbiddenIn (forbidden (schemaOf s) (forced a b (policiesOf (schemaOf s) p)) (instanceOf (schemaOf s) i))
+  in-force = e ∙ ap (λ (qs : List Policy). forbiddenIn (forbidden (schemaOf s) qs (instanceOf (schemaOf s) i))) (selects-forced s p a b l₀ l k)
+
+  pub judge-none-forced : x ≡ Nowhere → success 0 ≡ permitted (forbidden (schemaOf s) (forced a b (policiesOf (schemaOf s) p)) (instanceOf (schemaOf s) i))
+  judge-none-forced h = judge-none (forbidden (schemaOf s) (forced a b (policiesOf (schemaOf s) p)) (instanceOf (schemaOf s) i)) in-force h
+
+  pub judge-some-forced : {q : ℕ} → x ≡ At q → refusal 18 4 q ≡ permitted (forbidden (schemaOf s) (forced a b (policiesOf (schemaOf s) p)) (instanceOf (schemaOf s) i))
+  judge-some-forced h = judge-some (forbidden (schemaOf s) (forced a b (policiesOf (schemaOf s) p)) (instanceOf (schemaOf s) i)) in-force h
 
 -- ---- file by file
 

@@ -12,11 +12,11 @@ use Rattle.fields.proofs.Tests.{and-true, never}
 use Rattle.schema.specs.Schema.{Node, schemaOf, nodeAt}
 use Rattle.schema.specs.Table.{NodeIn, AtMost}
 use Rattle.policies.specs.Policies.{Policy, rankCount, rankOf, policiesOf}
-use Rattle.policies.specs.Pass.{forced, InForce}
+use Rattle.policies.specs.Pass.{selected, Selected}
 use Rattle.policies.specs.Index.{RankIn, policyOf}
 use Rattle.instances.specs.Instance.{elem, chooses, rightChoice}
 use Rattle.model.specs.Satisfaction.{columnOf, rank, every, allowed, choiceMeets}
-use Rattle.policies.proofs.Above.{force-rows, force-drop}
+use Rattle.policies.proofs.Above.{selected-rows, selected-drop}
 use Rattle.checker.specs.Checks.{allowedColumn, choosing}
 
 -- ---- the column of a successor
@@ -42,15 +42,15 @@ pub record Asking (ps : List Policy) (n k r : ℕ) : Type 0 where
 pub asking-none : (ps : List Policy) (n k : ℕ) → Asking ps n k 0
 asking-none ps n k = record { rest = refl }
 
-module _ (schema p list : List ℕ) (a b n k r : ℕ) {rows : ℕ} (w : Asking (forced a b (policiesOf (schemaOf schema) p)) n k r) (f : InForce schema p list rows a b) where
+module _ (schema p list : List ℕ) (n k r : ℕ) {rows : ℕ} (w : Asking (selected schema p list rows) n k r) (f : Selected schema p list rows) where
   abbrev ps : List Policy
-  ps = forced a b (policiesOf (schemaOf schema) p)
+  ps = selected schema p list rows
 
   next : {y : ℕ} → r < rows → y ≡ rankOf (policyOf schema p (getD list r 0)) n k → allowedColumn ps n k ≡ not (eqb y 255) && allowedColumn (drop (r + 1) ps) n k
   unfolding allowedColumn
   next {y} h e =
       sym (w .rest)
-      ∙ ap (λ (l : List Policy). every (λ (q : Policy). not (eqb (rankOf q n k) 255)) l) (force-drop schema p list a b f r h)
+      ∙ ap (λ (l : List Policy). every (λ (q : Policy). not (eqb (rankOf q n k) 255)) l) (selected-drop schema p list f r h)
       ∙ ap (λ (z : ℕ). not (eqb z 255) && every (λ (q : Policy). not (eqb (rankOf q n k) 255)) (drop (r + 1) ps)) (sym e)
 
   pub asking-no : {y : ℕ} → r < rows → y ≡ rankOf (policyOf schema p (getD list r 0)) n k → y ≡ 255 → false ≡ allowedColumn ps n k
@@ -61,7 +61,7 @@ module _ (schema p list : List ℕ) (a b n k r : ℕ) {rows : ℕ} (w : Asking (
 
   pub asking-done : rows ≤ r → true ≡ allowedColumn ps n k
   unfolding allowedColumn
-  asking-done h = rw (drop-of-length-le ps {i = r} (omega (arith, force-rows schema p list a b f))) at (w .rest)
+  asking-done h = rw (drop-of-length-le ps {i = r} (omega (arith, selected-rows schema p list f))) at (w .rest)
 
 -- ---- a choice
 

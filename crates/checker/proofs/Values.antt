@@ -22,7 +22,7 @@ use Rattle.schema.specs.Table.{AtMost}
 use Rattle.schema.specs.declared.Variable.{Variable}
 use Rattle.schema.specs.declared.Variable.the-variants.{Number, Listed}
 use Rattle.policies.specs.Policies.{mask, Policy, policiesOf}
-use Rattle.policies.specs.Pass.{forced}
+use Rattle.policies.specs.Pass.{selected}
 use Rattle.instances.specs.Instance.{inDomain}
 use Rattle.instances.specs.File.{valueWidth, valueOf, value, values}
 use Rattle.instances.proofs.Node.{vars-more}
@@ -171,11 +171,11 @@ here-is g ps n s {X} k p w l h =
       };
     }
 
-module _ (schema pol : List ℕ) (a b n : ℕ) (s : List ℕ) {X : Forbidden} (k p : ℕ) {m : ℕ} {number : Bool}
-    (w : Judging (schemaOf schema) (forced a b (policiesOf (schemaOf schema) pol)) n s X k p) (l : AtMost 4 (length (nodeAt (schemaOf schema) n .variables)) m) (h : k < m)
+module _ (schema pol list : List ℕ) (listed n : ℕ) (s : List ℕ) {X : Forbidden} (k p : ℕ) {m : ℕ} {number : Bool}
+    (w : Judging (schemaOf schema) (selected schema pol list listed) n s X k p) (l : AtMost 4 (length (nodeAt (schemaOf schema) n .variables)) m) (h : k < m)
     (e : number ≡ isNumber (getD (nodeAt (schemaOf schema) n .variables) k noVariable)) where
   abbrev ps : List Policy
-  ps = forced a b (policiesOf (schemaOf schema) pol)
+  ps = selected schema pol list listed
 
   abbrev var : Variable
   var = getD (nodeAt (schemaOf schema) n .variables) k noVariable

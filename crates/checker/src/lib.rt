@@ -7,7 +7,7 @@ ghost use Rattle.numbers.specs.Bits.{bit};
 ghost use Rattle.schema.specs.Schema.{schemaOf, nodeAt};
 ghost use Rattle.schema.specs.Table.{Tabled, Accepted, NodeIn, AtMost, Room};
 ghost use Rattle.policies.specs.Policies.{policiesOf};
-ghost use Rattle.policies.specs.Pass.{forced, InForce};
+ghost use Rattle.policies.specs.Pass.{forced, selected, Selected};
 ghost use Rattle.policies.specs.Index.{IndexIn, Indexed, RankIn, IndexRoom};
 ghost use Rattle.instances.specs.Instance.{rightChoice};
 ghost use Rattle.instances.specs.File.{values};
@@ -29,22 +29,20 @@ enum Forbidden {
     At { offset: usize },
 }
 
-// Whether no policy in force gives node n's successor k rank 255.
+// Whether no listed policy gives node n's successor k rank 255.
 fn column_allowed(
     schema: &[u8],
     p: &[u8],
     index: &[usize],
     list: &[usize; 16],
     rows: usize,
-    a: u16,
-    b: u16,
     n: usize,
     k: usize,
 ) -> bool
     requires { ⌜ IndexIn (now schema) (now p) (now index) ⌝ }
-    requires { ⌜ InForce (now schema) (now p) (now list) rows a b ⌝ }
+    requires { ⌜ Selected (now schema) (now p) (now list) rows ⌝ }
     requires { ⌜ RankIn (now schema) n k ⌝ }
-    ensures { λ r. ⌜ r ≡ allowedColumn (forced a b (policiesOf (schemaOf (now (schema .entry))) (now (p .entry)))) n k ⌝ }
+    ensures { λ r. ⌜ r ≡ allowedColumn (selected (now (schema .entry)) (now (p .entry)) (now (list .entry)) rows) n k ⌝ }
 {
     let mut r: usize = 0;
     while r < rows {
@@ -56,7 +54,7 @@ fn column_allowed(
     true
 }
 
-// Whether every policy in force allows choice x of node n.
+// Whether every listed policy allows choice x of node n.
 fn choice_allowed(
     schema: &[u8],
     table: &[usize],
@@ -64,20 +62,18 @@ fn choice_allowed(
     index: &[usize],
     list: &[usize; 16],
     rows: usize,
-    a: u16,
-    b: u16,
     n: usize,
     x: usize,
 ) -> bool
     requires { ⌜ NodeIn (now schema) (now table) n ⌝ }
     requires { ⌜ IndexIn (now schema) (now p) (now index) ⌝ }
-    requires { ⌜ InForce (now schema) (now p) (now list) rows a b ⌝ }
+    requires { ⌜ Selected (now schema) (now p) (now list) rows ⌝ }
     requires { ⌜ rightChoice (nodeAt (schemaOf (now schema)) n) x ≡ true ⌝ }
-    ensures { λ r. ⌜ r ≡ choiceMeets (schemaOf (now (schema .entry))) (forced a b (policiesOf (schemaOf (now (schema .entry))) (now (p .entry)))) (choosing n x) ⌝ }
+    ensures { λ r. ⌜ r ≡ choiceMeets (schemaOf (now (schema .entry))) (selected (now (schema .entry)) (now (p .entry)) (now (list .entry)) rows) (choosing n x) ⌝ }
 {
     if instances::chooses(schema, table, n) {
         let k = order::column_of(schema, table, n, x);
-        return column_allowed(schema, p, index, list, rows, a, b, n, k);
+        return column_allowed(schema, p, index, list, rows, n, k);
     }
     true
 }
@@ -123,21 +119,19 @@ fn conditions_of(
     index: &[usize],
     list: &[usize; 16],
     rows: usize,
-    a: u16,
-    b: u16,
     n: usize,
 ) -> Conditions
     requires { ⌜ NodeIn (now schema) (now table) n ⌝ }
     requires { ⌜ IndexIn (now schema) (now p) (now index) ⌝ }
-    requires { ⌜ InForce (now schema) (now p) (now list) rows a b ⌝ }
-    ensures { λ r. ⌜ r ≡ recordOf (combined (schemaOf (now (schema .entry))) (forced a b (policiesOf (schemaOf (now (schema .entry))) (now (p .entry)))) n) ⌝ }
+    requires { ⌜ Selected (now schema) (now p) (now list) rows ⌝ }
+    ensures { λ r. ⌜ r ≡ recordOf (combined (schemaOf (now (schema .entry))) (selected (now (schema .entry)) (now (p .entry)) (now (list .entry)) rows) n) ⌝ }
 {
     let mut places = [0usize; 16];
-    let found = conditions::find(schema, p, index, list, rows, a, b, n, &mut places);
-    conditions::combine(schema, table, p, &places, found, a, b, n)
+    let found = conditions::find(schema, p, index, list, rows, n, &mut places);
+    conditions::combine(schema, table, p, &places, found, list, rows, n)
 }
 
-// The first of node n's values, from a place of the file on, that a policy in force does not admit.
+// The first of node n's values, from a place of the file on, that a listed policy does not admit.
 fn first_value(
     schema: &[u8],
     table: &[usize],
@@ -145,20 +139,18 @@ fn first_value(
     index: &[usize],
     list: &[usize; 16],
     rows: usize,
-    a: u16,
-    b: u16,
     n: usize,
     s: &[u8],
     from: usize,
 ) -> Forbidden
     requires { ⌜ NodeIn (now schema) (now table) n ⌝ }
     requires { ⌜ IndexIn (now schema) (now p) (now index) ⌝ }
-    requires { ⌜ InForce (now schema) (now p) (now list) rows a b ⌝ }
+    requires { ⌜ Selected (now schema) (now p) (now list) rows ⌝ }
     requires { ⌜ ValuesThere (schemaOf (now schema)) n (now s) from ⌝ }
-    ensures { λ r. ⌜ r ≡ forbiddenIn (forbiddenValue (forced a b (policiesOf (schemaOf (now (schema .entry))) (now (p .entry)))) n 0 (nodeAt (schemaOf (now (schema .entry))) n .variables) (valuesIn (values (now (s .entry)) (nodeAt (schemaOf (now (schema .entry))) n .variables) from)) from) ⌝ }
+    ensures { λ r. ⌜ r ≡ forbiddenIn (forbiddenValue (selected (now (schema .entry)) (now (p .entry)) (now (list .entry)) rows) n 0 (nodeAt (schemaOf (now (schema .entry))) n .variables) (valuesIn (values (now (s .entry)) (nodeAt (schemaOf (now (schema .entry))) n .variables) from)) from) ⌝ }
 {
     let v = nodes::variable_count(schema, table, n);
-    let c = conditions_of(schema, table, p, index, list, rows, a, b, n);
+    let c = conditions_of(schema, table, p, index, list, rows, n);
     let mut at = from;
     let mut k: usize = 0;
     while k < v {
@@ -181,21 +173,19 @@ fn first_in_entry(
     index: &[usize],
     list: &[usize; 16],
     rows: usize,
-    a: u16,
-    b: u16,
     s: &[u8],
     at: usize,
 ) -> Forbidden
     requires { ⌜ Tabled (now schema) (now table) ⌝ }
     requires { ⌜ IndexIn (now schema) (now p) (now index) ⌝ }
-    requires { ⌜ InForce (now schema) (now p) (now list) rows a b ⌝ }
+    requires { ⌜ Selected (now schema) (now p) (now list) rows ⌝ }
     requires { ⌜ EntryThere (schemaOf (now schema)) (now s) at ⌝ }
-    ensures { λ r. ⌜ r ≡ forbiddenIn (forbiddenEntry (schemaOf (now (schema .entry))) (forced a b (policiesOf (schemaOf (now (schema .entry))) (now (p .entry)))) (entryIn (schemaOf (now (schema .entry))) (now (s .entry)) at) at) ⌝ }
+    ensures { λ r. ⌜ r ≡ forbiddenIn (forbiddenEntry (schemaOf (now (schema .entry))) (selected (now (schema .entry)) (now (p .entry)) (now (list .entry)) rows) (entryIn (schemaOf (now (schema .entry))) (now (s .entry)) at) at) ⌝ }
 {
     let n = s[at + 2] as usize;
     let x = s[at + 3] as usize;
-    if choice_allowed(schema, table, p, index, list, rows, a, b, n, x) {
-        return first_value(schema, table, p, index, list, rows, a, b, n, s, at + 4);
+    if choice_allowed(schema, table, p, index, list, rows, n, x) {
+        return first_value(schema, table, p, index, list, rows, n, s, at + 4);
     }
     Forbidden::At { offset: at + 3 }
 }
@@ -208,21 +198,19 @@ fn first_forbidden(
     index: &[usize],
     list: &[usize; 16],
     rows: usize,
-    a: u16,
-    b: u16,
     s: &[u8],
 ) -> Forbidden
     requires { ⌜ Accepted (now schema) ⌝ }
     requires { ⌜ Tabled (now schema) (now table) ⌝ }
     requires { ⌜ IndexIn (now schema) (now p) (now index) ⌝ }
-    requires { ⌜ InForce (now schema) (now p) (now list) rows a b ⌝ }
+    requires { ⌜ Selected (now schema) (now p) (now list) rows ⌝ }
     requires { ⌜ Readable (schemaOf (now schema)) (now s) ⌝ }
-    ensures { λ r. ⌜ r ≡ forbiddenIn (forbidden (schemaOf (now (schema .entry))) (forced a b (policiesOf (schemaOf (now (schema .entry))) (now (p .entry)))) (instanceOf (schemaOf (now (schema .entry))) (now (s .entry)))) ⌝ }
+    ensures { λ r. ⌜ r ≡ forbiddenIn (forbidden (schemaOf (now (schema .entry))) (selected (now (schema .entry)) (now (p .entry)) (now (list .entry)) rows) (instanceOf (schemaOf (now (schema .entry))) (now (s .entry)))) ⌝ }
 {
     let mut left = s[2];
     let mut at: usize = 3;
     while 0 < left {
-        match first_in_entry(schema, table, p, index, list, rows, a, b, s, at) {
+        match first_in_entry(schema, table, p, index, list, rows, s, at) {
             Forbidden::At { offset } => {
                 return Forbidden::At { offset };
             }
@@ -255,7 +243,7 @@ fn judge(
 {
     let mut list = [0usize; 16];
     let rows = policies::list_in_force(schema, p, index, count, a, b, &mut list);
-    match first_forbidden(schema, table, p, index, &list, rows, a, b, s) {
+    match first_forbidden(schema, table, p, index, &list, rows, s) {
         Forbidden::Nowhere => Answer {
             number: 0,
             file: 0,

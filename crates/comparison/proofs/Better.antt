@@ -11,9 +11,9 @@ use lib.ListN.{length, List·getD-eq-default, getD, drop, drop-of-length-le}
 use Rattle.schema.specs.Schema.{Node, nodeAt, schemaOf}
 use Rattle.schema.specs.Table.{NodeIn, AtMost}
 use Rattle.policies.specs.Policies.{Rule, Policy, rankCount, policiesOf, rankOf}
-use Rattle.policies.specs.Pass.{forced}
+use Rattle.policies.specs.Pass.{selected}
 use Rattle.policies.specs.Index.{PolicyIn, RankIn, policyOf}
-use Rattle.policies.proofs.Above.{force-rows, force-few, force-row, force-in, force-drop}
+use Rattle.policies.proofs.Above.{selected-rows, selected-few, selected-row, selected-in, selected-drop}
 use Rattle.policies.proofs.Sound.{stood, Says, silent, speaks, says}
 use Rattle.model.specs.Satisfaction.{columnOf, rank}
 use Rattle.model.specs.Order.{betterBy, better}
@@ -43,15 +43,15 @@ pub deciding-start : (g : List Node) (ps : List Policy) (n x y : ℕ) → Decidi
 unfolding better
 deciding-start g ps n x y = record { rest = refl }
 
-pub rows-few : (schema p index list : List ℕ) (a b : ℕ) {rows : ℕ} → Ranking schema p index list rows a b → rows ≤ 16
-rows-few schema p index list a b w = force-few schema p list a b (w .in-force)
+pub rows-few : (schema p index list : List ℕ) {rows : ℕ} → Ranking schema p index list rows → rows ≤ 16
+rows-few schema p index list w = selected-few schema p list (w .listed)
 
-module _ (schema p index list : List ℕ) (a b n x y r : ℕ) where
+module _ (schema p index list : List ℕ) (rows n x y r : ℕ) where
   abbrev g : List Node
   g = schemaOf schema
 
   abbrev ps : List Policy
-  ps = forced a b (policiesOf g p)
+  ps = selected schema p list rows
 
   abbrev ranks : Policy → ℕ → ℕ
   ranks q s = rank g q n s
@@ -59,13 +59,13 @@ module _ (schema p index list : List ℕ) (a b n x y r : ℕ) where
   abbrev q : Policy
   q = policyOf schema p (getD list r 0)
 
-  pub row-in : {rows : ℕ} → Ranking schema p index list rows a b → r < rows → PolicyIn schema p index (getD list r 0)
-  row-in w h = force-in schema p list a b (w .in-force) r h (w .index-is)
+  pub row-in : Ranking schema p index list rows → r < rows → PolicyIn schema p index (getD list r 0)
+  row-in w h = selected-in schema p list (w .listed) r h (w .index-is)
 
-  pub row-few : {rows : ℕ} → Ranking schema p index list rows a b → r < rows → r < 16
-  row-few w h = force-row schema p list a b (w .in-force) r h
+  pub row-few : Ranking schema p index list rows → r < rows → r < 16
+  row-few w h = selected-row schema p list (w .listed) r h
 
-  module _ {rows : ℕ} (i : Deciding g ps n x y r) (w : Ranking schema p index list rows a b) (h : r < rows) {c d s t : ℕ} (cx : AtMost 8 (columnOf x (nodeAt g n .successors)) c) (cy : AtMost 8 (columnOf y (nodeAt g n .successors)) d)
+  module _ (i : Deciding g ps n x y r) (w : Ranking schema p index list rows) (h : r < rows) {c d s t : ℕ} (cx : AtMost 8 (columnOf x (nodeAt g n .successors)) c) (cy : AtMost 8 (columnOf y (nodeAt g n .successors)) d)
       (sx : s ≡ rankOf q n c) (ty : t ≡ rankOf q n d) where
     -- the two ranks that were found
     at-x : ranks q x ≡ s
@@ -78,7 +78,7 @@ module _ (schema p index list : List ℕ) (a b n x y r : ℕ) where
 
     step : betterBy ranks (drop r ps) x y ≡ cond (eqb (ranks q x) (ranks q y)) (betterBy ranks (drop (r + 1) ps) x y) (ltb (ranks q x) (ranks q y))
     unfolding betterBy
-    step = ap (λ (l : List Policy). betterBy ranks l x y) (force-drop schema p list a b (w .in-force) r h)
+    step = ap (λ (l : List Policy). betterBy ranks l x y) (selected-drop schema p list (w .listed) r h)
 
     turn : cond (eqb s t) (betterBy ranks (drop (r + 1) ps) x y) (ltb s t) ≡ better g ps n x y
     turn =
@@ -96,6 +96,6 @@ module _ (schema p index list : List ℕ) (a b n x y r : ℕ) where
     pub better-on : t ≤ s → s ≤ t → Deciding g ps n x y (r + 1)
     better-on l m = record { rest = rw (eq-eqb s t (omega arith)) at turn }
 
-  pub better-done : {rows : ℕ} → Deciding g ps n x y r → Ranking schema p index list rows a b → rows ≤ r → ltb x y ≡ better g ps n x y
+  pub better-done : Deciding g ps n x y r → Ranking schema p index list rows → rows ≤ r → ltb x y ≡ better g ps n x y
   unfolding betterBy
-  better-done i w h = sym (ap (λ (l : List Policy). betterBy ranks l x y) (drop-of-length-le ps {i = r} (omega (arith, force-rows schema p list a b (w .in-force))))) ∙ i .rest
+  better-done i w h = sym (ap (λ (l : List Policy). betterBy ranks l x y) (drop-of-length-le ps {i = r} (omega (arith, selected-rows schema p list (w .listed))))) ∙ i .rest

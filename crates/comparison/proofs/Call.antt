@@ -1,5 +1,5 @@
 -- The call, file by file: one law for each way that a reading can end, then the verdict.
--- Rests on what the readers' contracts tell, and on listed, of policies, for those in force.
+-- Rests on what the readers' contracts tell, and on selects, of policies, for those in force.
 use mathlib.Core.Path.{_≡_, ap, ap₂, _∙_}
 use mathlib.Core.Bool.{Bool}
 use mathlib.Core.List.{List}
@@ -12,12 +12,12 @@ use Rattle.fields.proofs.Reading.{stepped, stopped}
 use Rattle.schema.specs.Schema.{Node, schema, schemaOf}
 use Rattle.schema.proofs.Accepted.{schema-got}
 use Rattle.policies.specs.Policies.{Policy, policiesOf}
-use Rattle.policies.specs.Pass.{pass, forced, positions, Listing}
+use Rattle.policies.specs.Pass.{pass, forced, positions, Listing, selected}
 use Rattle.policies.specs.Index.{Indexed}
 use Rattle.policy_reader.specs.Answers.{Told}
 use Rattle.policy_reader.specs.declared.PoliciesRead.{PoliciesRead}
 use Rattle.policy_reader.specs.declared.PoliciesRead.the-variants.{Policies, Refused}
-use Rattle.policies.proofs.Above.{listed}
+use Rattle.policies.proofs.Above.{selects, selects-forced}
 use Rattle.policy_reader.proofs.Above.{accepted-policies, refused-policies}
 use Rattle.instances.specs.File.{instance}
 use Rattle.lookup.specs.Lookup.{instanceOf}
@@ -30,8 +30,8 @@ use Rattle.comparison.specs.Comparison.{Ranking}
 -- ---- the policies in force
 
 pub ranking-by : (schema p t : List ℕ) (a b : ℕ) (l₀ l : List ℕ) {count rows : ℕ} → Indexed schema p t count
-    → Listing (positions a b 0 (policiesOf (schemaOf schema) p)) l₀ l rows → Ranking schema p t l rows a b
-ranking-by schema p t a b l₀ l w k = record { index-is = w .index; in-force = listed schema p a b l₀ l k }
+    → Listing (positions a b 0 (policiesOf (schemaOf schema) p)) l₀ l rows → Ranking schema p t l rows
+ranking-by schema p t a b l₀ l w k = record { index-is = w .index; listed = selects schema p a b l₀ l k }
 
 -- ---- the verdict
 
@@ -39,6 +39,14 @@ pub verdict-by : (g : List Node) (ps : List Policy) (s t : List ℕ) {x y : Bool
     → r ≡ verdict x y → r ≡ compared g ps (instanceOf g s) (instanceOf g t)
 unfolding compared
 verdict-by g ps s t e f q = q ∙ ap₂ verdict e f
+
+-- where those listed are the policies in force
+pub verdict-forced : (f p : List ℕ) (a b : ℕ) (l₀ l s t : List ℕ) {rows r : ℕ} {x y : Bool} → Listing (positions a b 0 (policiesOf (schemaOf f) p)) l₀ l rows
+    → x ≡ asGood (schemaOf f) (selected f p l rows) (instanceOf (schemaOf f) s) (instanceOf (schemaOf f) t) → y ≡ asGood (schemaOf f) (selected f p l rows) (instanceOf (schemaOf f) t) (instanceOf (schemaOf f) s)
+    → r ≡ verdict x y → r ≡ compared (schemaOf f) (forced a b (policiesOf (schemaOf f) p)) (instanceOf (schemaOf f) s) (instanceOf (schemaOf f) t)
+verdict-forced f p a b l₀ l s t {rows} k e h q =
+    verdict-by (schemaOf f) (selected f p l rows) s t e h q
+    ∙ ap (λ (qs : List Policy). compared (schemaOf f) qs (instanceOf (schemaOf f) s) (instanceOf (schemaOf f) t)) (selects-forced f p a b l₀ l k)
 
 -- ---- the instances
 

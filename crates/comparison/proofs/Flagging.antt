@@ -15,7 +15,7 @@ use Rattle.schema.specs.Table.{Tabled, Accepted, NodeIn, AtMost}
 use Rattle.schema.proofs.Sound.{Sound}
 use Rattle.schema.proofs.Accepted.{sound}
 use Rattle.policies.specs.Policies.{Policy, policiesOf}
-use Rattle.policies.specs.Pass.{forced}
+use Rattle.policies.specs.Pass.{selected}
 use Rattle.instances.specs.Instance.{Entry}
 use Rattle.lookup.specs.Lookup.{instanceOf, Readable, choicesOf}
 use Rattle.instances.proofs.IsInstance.{Reached, root, Ascending, IsInstance}
@@ -34,21 +34,21 @@ choice-is i a n h = go (lookup i a n)
     go (found e m q t) = ap (λ (k : ℕ). getD (choicesOf i) k 0) (sym q) ∙ choice-at i a e m (omega arith) ∙ sym (ap choiceOf t)
     go (missing q t) = choice-none i n h q ∙ sym (ap choiceOf t)
 
-pub record Flagging (schema p s t : List ℕ) (a b : ℕ) (flags : List ℕ) (n : ℕ) : Type 0 where
+pub record Flagging (schema p s t list : List ℕ) (listed : ℕ) (flags : List ℕ) (n : ℕ) : Type 0 where
   pub sound : Sound (schemaOf schema)
   pub first : IsInstance (schemaOf schema) (instanceOf (schemaOf schema) s)
   pub second : IsInstance (schemaOf schema) (instanceOf (schemaOf schema) t)
   pub below : n ≤ length (schemaOf schema)
   pub long : length flags ≡ 64
   pub right : (m : ℕ) → n ≤ m → Reached (schemaOf schema) (instanceOf (schemaOf schema) s) m
-      → inSet flags m ≡ good (schemaOf schema) (better (schemaOf schema) (forced a b (policiesOf (schemaOf schema) p))) (instanceOf (schemaOf schema) s) (instanceOf (schemaOf schema) t) m
+      → inSet flags m ≡ good (schemaOf schema) (better (schemaOf schema) (selected schema p list listed)) (instanceOf (schemaOf schema) s) (instanceOf (schemaOf schema) t) m
 
-module _ (schema p s t : List ℕ) (a b : ℕ) where
+module _ (schema p s t list : List ℕ) (listed : ℕ) where
   abbrev g : List Node
   g = schemaOf schema
 
   abbrev ps : List Policy
-  ps = forced a b (policiesOf g p)
+  ps = selected schema p list listed
 
   abbrev i : List Entry
   i = instanceOf g s
@@ -57,7 +57,7 @@ module _ (schema p s t : List ℕ) (a b : ℕ) where
   j = instanceOf g t
 
   pub flagging-start : {n : ℕ} → Accepted schema → Bytes schema → Readable g s → Bytes s → Readable g t → Bytes t → AtMost 64 (length g) n
-      → Flagging schema p s t a b (replicate 64 0) n
+      → Flagging schema p s t list listed (replicate 64 0) n
   flagging-start c sb r rb q qb l =
       let A = sound schema sb (c .some) in
       let I = read-is g A s rb (r .reads) in
@@ -70,7 +70,7 @@ module _ (schema p s t : List ℕ) (a b : ℕ) where
         right = λ m h v. absurd (let z = reached-below g A i I v in omega (arith, l .is));
       }
 
-  module _ (flags : List ℕ) (n : ℕ) (w : Flagging schema p s t a b flags n) where
+  module _ (flags : List ℕ) (n : ℕ) (w : Flagging schema p s t list listed flags n) where
     pub flagging-node : (table : List ℕ) → 0 < n → Tabled schema table → NodeIn schema table (n - 1)
     flagging-node table h e = record { table = e; below = let z = w .below in omega arith }
 
@@ -110,7 +110,7 @@ module _ (schema p s t : List ℕ) (a b : ℕ) where
                 let z : n - 1 ≡ m = omega arith in
                 subst (λ (q : ℕ). inSet (set flags (n - 1) f) q ≡ good g (better g ps) i j q) z (at-node ∙ here (subst (Reached g i) (sym z) v))
 
-        pub flagging-more : Flagging schema p s t a b (set flags (n - 1) f) (n - 1)
+        pub flagging-more : Flagging schema p s t list listed (set flags (n - 1) f) (n - 1)
         flagging-more =
             record {
               sound = w .sound;

@@ -3,9 +3,9 @@
 use Prim.Native.Nat.{ℕ}
 use mathlib.Core.List.{List}
 use Rattle.policies.specs.Index.{IndexIn}
-use Rattle.policies.specs.Pass.{InForce}
+use Rattle.policies.specs.Pass.{Selected}
 
--- the index of the file p, and the policies in force
-pub record Ranking (schema p index list : List ℕ) (rows a b : ℕ) : Type 0 where
+-- the index of the file p, and some of its policies
+pub record Ranking (schema p index list : List ℕ) (rows : ℕ) : Type 0 where
   pub index-is : IndexIn schema p index
-  pub in-force : InForce schema p list rows a b
+  pub listed : Selected schema p list rows

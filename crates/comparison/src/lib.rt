@@ -5,7 +5,7 @@ ghost use lib.ListN.{length, getD};
 ghost use Rattle.schema.specs.Schema.{schemaOf};
 ghost use Rattle.schema.specs.Table.{Tabled, Accepted, NodeIn, AtMost, Room};
 ghost use Rattle.policies.specs.Policies.{policiesOf, rankOf};
-ghost use Rattle.policies.specs.Pass.{forced};
+ghost use Rattle.policies.specs.Pass.{forced, selected};
 ghost use Rattle.policies.specs.Index.{PolicyIn, Indexed, IndexRoom, policyOf};
 ghost use Rattle.lookup.specs.Lookup.{instanceOf, Readable};
 ghost use Rattle.model.specs.Order.{better, goodChoice, goodAt, asGood};
@@ -45,15 +45,13 @@ fn is_better(
     index: &[usize],
     list: &[usize; 16],
     rows: usize,
-    a: u16,
-    b: u16,
     n: usize,
     x: usize,
     y: usize,
 ) -> bool
     requires { ⌜ NodeIn (now schema) (now table) n ⌝ }
-    requires { ⌜ Ranking (now schema) (now p) (now index) (now list) rows a b ⌝ }
-    ensures { λ r. ⌜ r ≡ better (schemaOf (now (schema .entry))) (forced a b (policiesOf (schemaOf (now (schema .entry))) (now (p .entry)))) n x y ⌝ }
+    requires { ⌜ Ranking (now schema) (now p) (now index) (now list) rows ⌝ }
+    ensures { λ r. ⌜ r ≡ better (schemaOf (now (schema .entry))) (selected (now (schema .entry)) (now (p .entry)) (now (list .entry)) rows) n x y ⌝ }
 {
     let c = order::column_of(schema, table, n, x);
     let d = order::column_of(schema, table, n, y);
@@ -91,22 +89,20 @@ fn is_good_choice(
     index: &[usize],
     list: &[usize; 16],
     rows: usize,
-    a: u16,
-    b: u16,
     n: usize,
     x: usize,
     y: usize,
     flags: &[u8; 64],
 ) -> bool
     requires { ⌜ NodeIn (now schema) (now table) n ⌝ }
-    requires { ⌜ Ranking (now schema) (now p) (now index) (now list) rows a b ⌝ }
+    requires { ⌜ Ranking (now schema) (now p) (now index) (now list) rows ⌝ }
     requires { ⌜ length (now flags) ≡ 64 ⌝ }
-    ensures { λ r. ⌜ r ≡ goodChoice (better (schemaOf (now (schema .entry))) (forced a b (policiesOf (schemaOf (now (schema .entry))) (now (p .entry))))) (inSet (now (flags .entry))) n x y ⌝ }
+    ensures { λ r. ⌜ r ≡ goodChoice (better (schemaOf (now (schema .entry))) (selected (now (schema .entry)) (now (p .entry)) (now (list .entry)) rows)) (inSet (now (flags .entry))) n x y ⌝ }
 {
     if x == y {
         return is_flagged(flags, x);
     }
-    is_better(schema, table, p, index, list, rows, a, b, n, x, y)
+    is_better(schema, table, p, index, list, rows, n, x, y)
 }
 
 fn wide(x: u8) -> usize
@@ -123,22 +119,20 @@ fn is_good(
     index: &[usize],
     list: &[usize; 16],
     rows: usize,
-    a: u16,
-    b: u16,
     n: usize,
     first: &[u8; 64],
     second: &[u8; 64],
     flags: &[u8; 64],
 ) -> bool
     requires { ⌜ NodeIn (now schema) (now table) n ⌝ }
-    requires { ⌜ Ranking (now schema) (now p) (now index) (now list) rows a b ⌝ }
+    requires { ⌜ Ranking (now schema) (now p) (now index) (now list) rows ⌝ }
     requires { ⌜ length (now flags) ≡ 64 ⌝ }
-    ensures { λ r. ⌜ r ≡ goodAt (schemaOf (now (schema .entry))) (better (schemaOf (now (schema .entry))) (forced a b (policiesOf (schemaOf (now (schema .entry))) (now (p .entry))))) (inSet (now (flags .entry))) n (getD (now (first .entry)) n 0) (getD (now (second .entry)) n 0) ⌝ }
+    ensures { λ r. ⌜ r ≡ goodAt (schemaOf (now (schema .entry))) (better (schemaOf (now (schema .entry))) (selected (now (schema .entry)) (now (p .entry)) (now (list .entry)) rows)) (inSet (now (flags .entry))) n (getD (now (first .entry)) n 0) (getD (now (second .entry)) n 0) ⌝ }
 {
     if instances::chooses(schema, table, n) {
         let x = wide(first[n]);
         let y = wide(second[n]);
-        return is_good_choice(schema, table, p, index, list, rows, a, b, n, x, y, flags);
+        return is_good_choice(schema, table, p, index, list, rows, n, x, y, flags);
     }
     order::all_in(schema, table, n, flags)
 }
@@ -160,17 +154,15 @@ fn as_good(
     index: &[usize],
     list: &[usize; 16],
     rows: usize,
-    a: u16,
-    b: u16,
     s: &[u8],
     t: &[u8],
 ) -> bool
     requires { ⌜ Accepted (now schema) ⌝ }
     requires { ⌜ Tabled (now schema) (now table) ⌝ }
-    requires { ⌜ Ranking (now schema) (now p) (now index) (now list) rows a b ⌝ }
+    requires { ⌜ Ranking (now schema) (now p) (now index) (now list) rows ⌝ }
     requires { ⌜ Readable (schemaOf (now schema)) (now s) ⌝ }
     requires { ⌜ Readable (schemaOf (now schema)) (now t) ⌝ }
-    ensures { λ r. ⌜ r ≡ asGood (schemaOf (now (schema .entry))) (forced a b (policiesOf (schemaOf (now (schema .entry))) (now (p .entry)))) (instanceOf (schemaOf (now (schema .entry))) (now (s .entry))) (instanceOf (schemaOf (now (schema .entry))) (now (t .entry))) ⌝ }
+    ensures { λ r. ⌜ r ≡ asGood (schemaOf (now (schema .entry))) (selected (now (schema .entry)) (now (p .entry)) (now (list .entry)) rows) (instanceOf (schemaOf (now (schema .entry))) (now (s .entry))) (instanceOf (schemaOf (now (schema .entry))) (now (t .entry))) ⌝ }
 {
     let x = lookup::choices(schema, table, s);
     let y = lookup::choices(schema, table, t);
@@ -178,7 +170,7 @@ fn as_good(
     let mut n = nodes::count_of(schema);
     while 0 < n {
         n -= 1;
-        let good = is_good(schema, table, p, index, list, rows, a, b, n, &x, &y, &flags);
+        let good = is_good(schema, table, p, index, list, rows, n, &x, &y, &flags);
         flags[n] = flag(good);
     }
     flags[0] == 1
@@ -220,8 +212,8 @@ fn compare_accepted(
 {
     let mut list = [0usize; 16];
     let rows = policies::list_in_force(schema, p, index, count, a, b, &mut list);
-    let first = as_good(schema, table, p, index, &list, rows, a, b, s, t);
-    let second = as_good(schema, table, p, index, &list, rows, a, b, t, s);
+    let first = as_good(schema, table, p, index, &list, rows, s, t);
+    let second = as_good(schema, table, p, index, &list, rows, t, s);
     verdict_of(first, second)
 }
 

@@ -21,7 +21,7 @@ use Rattle.schema.specs.declared.Variable.the-variants.{Number, Listed}
 use Rattle.schema.proofs.Sound.{SoundVariable, SoundVariables}
 use Rattle.schema.proofs.Access.{here}
 use Rattle.policies.specs.Policies.{Condition, range, mask, Policy, rankCount, policiesOf}
-use Rattle.policies.specs.Pass.{forced}
+use Rattle.policies.specs.Pass.{selected}
 use Rattle.policies.specs.Index.{span, spans, offsetOf}
 use Rattle.policies.proofs.Nodes.{spans-next}
 use Rattle.model.specs.Reconciling.{own, restrictAll, combinedFrom, combined}
@@ -129,13 +129,13 @@ unfolding combinedFrom
 combined-length qs n k [] = refl
 combined-length qs n k (v ∷ vs) = ap suc (combined-length qs n (k + 1) vs)
 
-pub combining-done : (schema p : List ℕ) (a b n k at : ℕ) (lo hi : List ℤ) (ms : List ℕ) {v : ℕ}
-    → Combining (schemaOf schema) (forced a b (policiesOf (schemaOf schema) p)) n k at lo hi ms → AtMost 4 (length (nodeAt (schemaOf schema) n .variables)) v → v ≤ k
-    → record { lo = lo; hi = hi; mask = ms } ≡ recordOf (combined (schemaOf schema) (forced a b (policiesOf (schemaOf schema) p)) n)
+pub combining-done : (schema p list : List ℕ) (listed n k at : ℕ) (lo hi : List ℤ) (ms : List ℕ) {v : ℕ}
+    → Combining (schemaOf schema) (selected schema p list listed) n k at lo hi ms → AtMost 4 (length (nodeAt (schemaOf schema) n .variables)) v → v ≤ k
+    → record { lo = lo; hi = hi; mask = ms } ≡ recordOf (combined (schemaOf schema) (selected schema p list listed) n)
 unfolding recordOf combined
-combining-done schema p a b n k at lo hi ms w m h =
+combining-done schema p list listed n k at lo hi ms w m h =
     let g = schemaOf schema in
-    let qs = forced a b (policiesOf (schemaOf schema) p) in
+    let qs = selected schema p list listed in
     let cs = combined g qs n in
     let z : length cs ≤ k = omega (arith, combined-length qs n 0 (nodeAt g n .variables), m .is) in
     rw (upto-done lowerOf cs k lo (w .lower) z, upto-done upperOf cs k hi (w .upper) z, upto-done maskOf cs k ms (w .masks) z)

@@ -13,10 +13,10 @@ use Rattle.fields.specs.Writing.{put}
 use Rattle.fields.proofs.Bytes.{put-none}
 use Rattle.schema.specs.Schema.{Node, schemaOf}
 use Rattle.policies.specs.Policies.{Policy, hasRule, policiesOf, policyAt}
-use Rattle.policies.specs.Pass.{forced, Listing, InForce}
+use Rattle.policies.specs.Pass.{Listing, selected, Selected}
 use Rattle.policies.specs.Index.{placeIn, policyOf, IndexIn}
 use Rattle.policies.proofs.Pass.{put-next}
-use Rattle.policies.proofs.Above.{put-front, force-rows, force-few, force-in, force-drop}
+use Rattle.policies.proofs.Above.{put-front, selected-rows, selected-few, selected-in, selected-drop}
 use Rattle.conditions.specs.Places.{speaking, spokenFrom, spoken, SaidAt, Found}
 use Rattle.conditions.proofs.Said.{said-none, said-at}
 
@@ -120,9 +120,9 @@ says-at none r h = absurd (omega arith)
 says-at (more a t) zero h = a
 says-at (more a t) (suc r) h = says-at t r (omega arith)
 
-module _ (schema p index list : List ℕ) (a b n : ℕ) {rows : ℕ} (f : InForce schema p list rows a b) where
+module _ (schema p index list : List ℕ) (n : ℕ) {rows : ℕ} (f : Selected schema p list rows) where
   few : length (spoken index list n rows) ≤ 16
-  few = omega (arith, spoken-few index list n 0 rows, force-few schema p list a b f)
+  few = omega (arith, spoken-few index list n 0 rows, selected-few schema p list f)
 
   pub found-long : (t₀ t : List ℕ) {m : ℕ} → Listing (spoken index list n rows) t₀ t m → length t₀ ≡ 16 → length t ≡ 16
   unfolding put
@@ -131,18 +131,18 @@ module _ (schema p index list : List ℕ) (a b n : ℕ) {rows : ℕ} (f : InForc
       ap length (w .list) ∙ length-append (spoken index list n rows) (drop k t₀) ∙ omega (arith, few, length-drop k t₀)
 
   abbrev qs : List Policy
-  qs = forced a b (policiesOf (schemaOf schema) p)
+  qs = selected schema p list rows
 
   module _ (below : n < length (schemaOf schema)) (x : IndexIn schema p index) where
     says-from : (i k : ℕ) → i + k ≡ rows → Says (schemaOf schema) p n (spokenFrom index list n i k) (speaking n (drop i qs))
     unfolding spokenFrom speaking
-    says-from i zero e = rw (drop-of-length-le qs {i = i} (omega (arith, force-rows schema p list a b f))) none
+    says-from i zero e = rw (drop-of-length-le qs {i = i} (omega (arith, selected-rows schema p list f))) none
     says-from i (suc k) e =
         let h : i < rows = omega arith in
-        rw (force-drop schema p list a b f i h)
+        rw (selected-drop schema p list f i h)
         (go (hasRule n (policyOf schema p (getD list i 0) .rules))
-        (said-none schema p index (getD list i 0) n (force-in schema p list a b f i h x) below)
-        (said-at schema p index (getD list i 0) n (force-in schema p list a b f i h x) below)
+        (said-none schema p index (getD list i 0) n (selected-in schema p list f i h x) below)
+        (said-at schema p index (getD list i 0) n (selected-in schema p list f i h x) below)
         (says-from (i + 1) k (omega arith)))
       where
         go : (v : Bool) → eqb (placeIn index (getD list i 0) n) 0 ≡ not v → ((placeIn index (getD list i 0) n ≡ 0 → ⊥) → SaidAt (schemaOf schema) p (policyOf schema p (getD list i 0)) n (placeIn index (getD list i 0) n))
@@ -152,7 +152,7 @@ module _ (schema p index list : List ℕ) (a b n : ℕ) {rows : ℕ} (f : InForc
         go true z s r = rw z (more (s (eqb-false (placeIn index (getD list i 0) n) 0 z)) r)
         go false z s r = rw z r
 
-    pub found-is : (t₀ t : List ℕ) {m : ℕ} → Listing (spoken index list n rows) t₀ t m → Found schema p a b n m t
+    pub found-is : (t₀ t : List ℕ) {m : ℕ} → Listing (spoken index list n rows) t₀ t m → Found schema p list rows n m t
     found-is t₀ t w =
         let says = says-from 0 rows (zero-add rows) in
         record {

@@ -19,7 +19,7 @@ use Rattle.numbers.specs.Bits.{ones}
 use Rattle.numbers.specs.Signs.{maxZ, minZ}
 use Rattle.schema.specs.Schema.{schemaOf}
 use Rattle.policies.specs.Policies.{Condition, range, mask, Policy, noPolicy, policiesOf, policyAt}
-use Rattle.policies.specs.Pass.{forced}
+use Rattle.policies.specs.Pass.{selected}
 use Rattle.model.specs.Satisfaction.{conditionAt}
 use Rattle.model.specs.Reconciling.{both, restrict, restrictAll}
 use Rattle.conditions.specs.Places.{speaking, Found, ConditionIn}
@@ -31,17 +31,17 @@ pub kept : (z : ℤ) → mag z < 2 ^ 31 → toZ w32 (ofZ w32 z) ≡ z
 kept z f = toZ-ofZ w32 z (record { sfits = f })
 
 -- where a policy speaks of the node, there is room for the condition
-module _ (schema p : List ℕ) (a b n k rows : ℕ) (places : List ℕ) (r : ℕ) {offset : ℕ} (f : Found schema p a b n rows places) (h : r < rows) where
+module _ (schema p list : List ℕ) (listed n k rows : ℕ) (places : List ℕ) (r : ℕ) {offset : ℕ} (f : Found schema p list listed n rows places) (h : r < rows) where
   module _ (i : ConditionIn (schemaOf schema) n k offset true) where
     pub range-room : getD places r 0 + offset + 8 ≤ length p
-    range-room = range-inside (schemaOf schema) p (policyAt (speaking n (forced a b (policiesOf (schemaOf schema) p))) r) n (getD places r 0) k offset (f .each r h) i
+    range-room = range-inside (schemaOf schema) p (policyAt (speaking n (selected schema p list listed)) r) n (getD places r 0) k offset (f .each r h) i
 
     pub range-fits : length p < 2 ^ 64 → Fits w64 (getD places r 0 + offset)
     range-fits m = record { fits = omega (arith, range-room) }
 
   module _ (i : ConditionIn (schemaOf schema) n k offset false) where
     pub mask-room : getD places r 0 + offset + 4 ≤ length p
-    mask-room = mask-inside (schemaOf schema) p (policyAt (speaking n (forced a b (policiesOf (schemaOf schema) p))) r) n (getD places r 0) k offset (f .each r h) i
+    mask-room = mask-inside (schemaOf schema) p (policyAt (speaking n (selected schema p list listed)) r) n (getD places r 0) k offset (f .each r h) i
 
     pub mask-fits : length p < 2 ^ 64 → Fits w64 (getD places r 0 + offset)
     mask-fits m = record { fits = omega (arith, mask-room) }
@@ -66,9 +66,9 @@ narrowing-none qs n k c = record { left = refl }
 pub narrowing-mask-none : (qs : List Policy) (n k size : ℕ) {m : ℕ} → m ≡ ones size → Narrowing qs n k (mask (ones size)) 0 (mask m)
 narrowing-mask-none qs n k size e = record { left = ap (λ (x : ℕ). restrictAll qs n k (mask x)) e }
 
-module _ (schema p : List ℕ) (a b n k rows : ℕ) (places : List ℕ) (start : Condition) (r : ℕ) (f : Found schema p a b n rows places) where
+module _ (schema p list : List ℕ) (listed n k rows : ℕ) (places : List ℕ) (start : Condition) (r : ℕ) (f : Found schema p list listed n rows places) where
   abbrev qs : List Policy
-  qs = speaking n (forced a b (policiesOf (schemaOf schema) p))
+  qs = speaking n (selected schema p list listed)
 
   turn : {c d : Condition} → Narrowing qs n k start r c → r < rows → d ≡ restrict c (conditionAt (policyAt qs r) n k) → Narrowing qs n k start (r + 1) d
   unfolding restrictAll
@@ -81,12 +81,12 @@ module _ (schema p : List ℕ) (a b n k rows : ℕ) (places : List ℕ) (start :
             ∙ w .left;
       }
 
-  pub narrowing-done : {c : Condition} → Narrowing qs n k start r c → rows ≤ r → c ≡ restrictAll (forced a b (policiesOf (schemaOf schema) p)) n k start
+  pub narrowing-done : {c : Condition} → Narrowing qs n k start r c → rows ≤ r → c ≡ restrictAll (selected schema p list listed) n k start
   unfolding restrictAll
   narrowing-done {c} w h =
       sym (ap (λ (l : List Policy). restrictAll l n k c) (drop-of-length-le qs {i = r} (omega (arith, f .rows-is))))
       ∙ w .left
-      ∙ conditions-speaking n k (forced a b (policiesOf (schemaOf schema) p)) start
+      ∙ conditions-speaking n k (selected schema p list listed) start
 
   -- a number's bounds
   module _ {offset : ℕ} (i : ConditionIn (schemaOf schema) n k offset true) (h : r < rows) where
@@ -107,9 +107,9 @@ module _ (schema p : List ℕ) (a b n k rows : ℕ) (places : List ℕ) (start :
         ∙ ap (restrict (mask m)) (sym (mask-said (schemaOf schema) p (policyAt qs r) n (getD places r 0) k offset (f .each r h) i)))
 
 -- the range that the code begins with
-pub narrowing-bounds : (schema p : List ℕ) (a b n k rows : ℕ) (places : List ℕ) (r : ℕ) {least most : ℤ} {c : Condition} → Found schema p a b n rows places → SFits w32 least → SFits w32 most
-    → Narrowing (speaking n (forced a b (policiesOf (schemaOf schema) p))) n k (range (toZ w32 (ofZ w32 least)) (toZ w32 (ofZ w32 most))) r c → rows ≤ r
-    → c ≡ restrictAll (forced a b (policiesOf (schemaOf schema) p)) n k (range least most)
-narrowing-bounds schema p a b n k rows places r {least} {most} f fl fm w h =
-    narrowing-done schema p a b n k rows places (range (toZ w32 (ofZ w32 least)) (toZ w32 (ofZ w32 most))) r f w h
-    ∙ ap (restrictAll (forced a b (policiesOf (schemaOf schema) p)) n k) (ap₂ range (toZ-ofZ w32 least fl) (toZ-ofZ w32 most fm))
+pub narrowing-bounds : (schema p list : List ℕ) (listed n k rows : ℕ) (places : List ℕ) (r : ℕ) {least most : ℤ} {c : Condition} → Found schema p list listed n rows places → SFits w32 least → SFits w32 most
+    → Narrowing (speaking n (selected schema p list listed)) n k (range (toZ w32 (ofZ w32 least)) (toZ w32 (ofZ w32 most))) r c → rows ≤ r
+    → c ≡ restrictAll (selected schema p list listed) n k (range least most)
+narrowing-bounds schema p list listed n k rows places r {least} {most} f fl fm w h =
+    narrowing-done schema p list listed n k rows places (range (toZ w32 (ofZ w32 least)) (toZ w32 (ofZ w32 most))) r f w h
+    ∙ ap (restrictAll (selected schema p list listed) n k) (ap₂ range (toZ-ofZ w32 least fl) (toZ-ofZ w32 most fm))

@@ -22,7 +22,7 @@ use Rattle.schema.specs.Table.{AtMost}
 use Rattle.schema.specs.declared.Variable.{Variable}
 use Rattle.schema.specs.declared.Variable.the-variants.{Number, Listed}
 use Rattle.policies.specs.Policies.{Condition, range, mask, Policy, rankCount, policiesOf}
-use Rattle.policies.specs.Pass.{forced}
+use Rattle.policies.specs.Pass.{selected}
 use Rattle.policies.specs.Index.{span, spans, offsetOf}
 use Rattle.model.specs.Satisfaction.{every}
 use Rattle.model.specs.Reconciling.{own, both, restrictAll, combined}
@@ -130,19 +130,19 @@ below-four P a b c d (suc (suc zero)) h = c
 below-four P a b c d (suc (suc (suc zero))) h = d
 below-four P a b c d (suc (suc (suc (suc k)))) h = absurd (omega arith)
 
-pub record Four (schema p : List ℕ) (a b n rows : ℕ) (places : List ℕ) (offset r : ℕ) (w x y z : Condition) : Type 0 where
-  pub found : Found schema p a b n rows places
+pub record Four (schema p list : List ℕ) (listed n rows : ℕ) (places : List ℕ) (offset r : ℕ) (w x y z : Condition) : Type 0 where
+  pub found : Found schema p list listed n rows places
   pub numbers : fourNumbers (nodeAt (schemaOf schema) n .variables) ≡ true
   pub first : AtMost 8 (rankCount (nodeAt (schemaOf schema) n)) offset
   pub small : length p < 2 ^ 64
-  pub each : (k : ℕ) → k < 4 → Left (schemaOf schema) (speaking n (forced a b (policiesOf (schemaOf schema) p))) n r (w ∷ x ∷ y ∷ z ∷ []) k
+  pub each : (k : ℕ) → k < 4 → Left (schemaOf schema) (speaking n (selected schema p list listed)) n r (w ∷ x ∷ y ∷ z ∷ []) k
 
-pub four-none : (schema p : List ℕ) (a b n rows : ℕ) (places : List ℕ) {offset : ℕ} {w x y z : Condition} → Found schema p a b n rows places
+pub four-none : (schema p list : List ℕ) (listed n rows : ℕ) (places : List ℕ) {offset : ℕ} {w x y z : Condition} → Found schema p list listed n rows places
     → fourNumbers (nodeAt (schemaOf schema) n .variables) ≡ true → AtMost 8 (rankCount (nodeAt (schemaOf schema) n)) offset → length p < 2 ^ 64
     → w ≡ own (variableAt (schemaOf schema) n 0) → x ≡ own (variableAt (schemaOf schema) n 1) → y ≡ own (variableAt (schemaOf schema) n 2) → z ≡ own (variableAt (schemaOf schema) n 3)
-    → Four schema p a b n rows places offset 0 w x y z
-four-none schema p a b n rows places {w = w} {x} {y} {z} f t m l ew ex ey ez =
-    let qs = speaking n (forced a b (policiesOf (schemaOf schema) p)) in
+    → Four schema p list listed n rows places offset 0 w x y z
+four-none schema p list listed n rows places {w = w} {x} {y} {z} f t m l ew ex ey ez =
+    let qs = speaking n (selected schema p list listed) in
     record {
       found = f;
       numbers = t;
@@ -156,12 +156,12 @@ four-none schema p a b n rows places {w = w} {x} {y} {z} f t m l ew ex ey ez =
           (record { left = ap (restrictAll qs n 3) ez });
     }
 
-module _ (schema p : List ℕ) (a b n rows : ℕ) (places : List ℕ) (offset r : ℕ) {w x y z : Condition} (u : Four schema p a b n rows places offset r w x y z) where
+module _ (schema p list : List ℕ) (listed n rows : ℕ) (places : List ℕ) (offset r : ℕ) {w x y z : Condition} (u : Four schema p list listed n rows places offset r w x y z) where
   abbrev g : List Node
   g = schemaOf schema
 
   abbrev qs : List Policy
-  qs = speaking n (forced a b (policiesOf g p))
+  qs = speaking n (selected schema p list listed)
 
   abbrev vs : List Variable
   vs = nodeAt g n .variables
@@ -177,12 +177,12 @@ module _ (schema p : List ℕ) (a b n rows : ℕ) (places : List ℕ) (offset r 
         place = omega (arith, u .first .is, spans-numbers vs k e (omega arith));
       }
 
-  next : {w' x' y' z' : Condition} → ((k : ℕ) → k < 4 → Left g qs n (r + 1) (w' ∷ x' ∷ y' ∷ z' ∷ []) k) → Four schema p a b n rows places offset (r + 1) w' x' y' z'
+  next : {w' x' y' z' : Condition} → ((k : ℕ) → k < 4 → Left g qs n (r + 1) (w' ∷ x' ∷ y' ∷ z' ∷ []) k) → Four schema p list listed n rows places offset (r + 1) w' x' y' z'
   next e = record { found = u .found; numbers = u .numbers; first = u .first; small = u .small; each = e }
 
   module _ (h : r < rows) where
     room : getD places r 0 + offset + 32 ≤ length p
-    room = omega (arith, range-room schema p a b n 3 rows places r (u .found) h (place 3 (omega arith)))
+    room = omega (arith, range-room schema p list listed n 3 rows places r (u .found) h (place 3 (omega arith)))
 
     pub first-room : getD places r 0 + offset + 8 ≤ length p
     first-room = omega (arith, room)
@@ -199,7 +199,7 @@ module _ (schema p : List ℕ) (a b n rows : ℕ) (places : List ℕ) (offset r 
     turn : (k at : ℕ) → k < 4 → at ≡ getD places r 0 + offset + 8 * k → {c d : Condition} → Narrowing qs n k (own (variableAt g n k)) r c
         → d ≡ both c (range (signed (be 4 p at)) (signed (be 4 p (at + 4)))) → Narrowing qs n k (own (variableAt g n k)) (r + 1) d
     turn k at l i {c} s d =
-        narrowing-range schema p a b n k rows places (own (variableAt g n k)) r (u .found) (place k l) h s
+        narrowing-range schema p list listed n k rows places (own (variableAt g n k)) r (u .found) (place k l) h s
         (d ∙ ap (λ (j : ℕ). both c (range (signed (be 4 p j)) (signed (be 4 p (j + 4))))) (let q : at ≡ getD places r 0 + (offset + 8 * k) = omega arith in q))
 
     pub four-range : {w' x' y' z' : Condition}
@@ -207,7 +207,7 @@ module _ (schema p : List ℕ) (a b n rows : ℕ) (places : List ℕ) (offset r 
         → x' ≡ both x (range (signed (be 4 p (getD places r 0 + offset + 8))) (signed (be 4 p (getD places r 0 + offset + 8 + 4))))
         → y' ≡ both y (range (signed (be 4 p (getD places r 0 + offset + 16))) (signed (be 4 p (getD places r 0 + offset + 16 + 4))))
         → z' ≡ both z (range (signed (be 4 p (getD places r 0 + offset + 24))) (signed (be 4 p (getD places r 0 + offset + 24 + 4))))
-        → Four schema p a b n rows places offset (r + 1) w' x' y' z'
+        → Four schema p list listed n rows places offset (r + 1) w' x' y' z'
     four-range {w'} {x'} {y'} {z'} ew ex ey ez =
         let at = getD places r 0 + offset in
         next
@@ -218,26 +218,26 @@ module _ (schema p : List ℕ) (a b n rows : ℕ) (places : List ℕ) (offset r 
         (turn 3 (at + 24) (omega arith) (omega arith) (u .each 3 (omega arith)) ez))
 
   -- all rows are behind
-  done-at : rows ≤ r → (k : ℕ) → k < 4 → getD (combined g (forced a b (policiesOf g p)) n) k (mask 0) ≡ getD (w ∷ x ∷ y ∷ z ∷ []) k (mask 0)
+  done-at : rows ≤ r → (k : ℕ) → k < 4 → getD (combined g (selected schema p list listed) n) k (mask 0) ≡ getD (w ∷ x ∷ y ∷ z ∷ []) k (mask 0)
   unfolding combined
   done-at h k l =
-      combined-at (forced a b (policiesOf g p)) n 0 k vs (mask 0) (four-below vs k (u .numbers) l)
-      ∙ ap (λ (j : ℕ). restrictAll (forced a b (policiesOf g p)) n j (own (variableAt g n k))) (zero-add k)
-      ∙ sym (narrowing-done schema p a b n k rows places (own (variableAt g n k)) r (u .found) (u .each k l) h)
+      combined-at (selected schema p list listed) n 0 k vs (mask 0) (four-below vs k (u .numbers) l)
+      ∙ ap (λ (j : ℕ). restrictAll (selected schema p list listed) n j (own (variableAt g n k))) (zero-add k)
+      ∙ sym (narrowing-done schema p list listed n k rows places (own (variableAt g n k)) r (u .found) (u .each k l) h)
 
 -- the record, as the code makes it of the bounds
-pub four-done : (schema p : List ℕ) (a b n rows : ℕ) (places : List ℕ) (offset r : ℕ) (w x y z : Range)
-    → Four schema p a b n rows places offset r (range (w .lo) (w .hi)) (range (x .lo) (x .hi)) (range (y .lo) (y .hi)) (range (z .lo) (z .hi)) → rows ≤ r
+pub four-done : (schema p list : List ℕ) (listed n rows : ℕ) (places : List ℕ) (offset r : ℕ) (w x y z : Range)
+    → Four schema p list listed n rows places offset r (range (w .lo) (w .hi)) (range (x .lo) (x .hi)) (range (y .lo) (y .hi)) (range (z .lo) (z .hi)) → rows ≤ r
     → mag (w .lo) < 2 ^ 31 → mag (x .lo) < 2 ^ 31 → mag (y .lo) < 2 ^ 31 → mag (z .lo) < 2 ^ 31
     → mag (w .hi) < 2 ^ 31 → mag (x .hi) < 2 ^ 31 → mag (y .hi) < 2 ^ 31 → mag (z .hi) < 2 ^ 31
     → record {
       lo = toZ w32 (ofZ w32 (w .lo)) ∷ toZ w32 (ofZ w32 (x .lo)) ∷ toZ w32 (ofZ w32 (y .lo)) ∷ toZ w32 (ofZ w32 (z .lo)) ∷ [];
       hi = toZ w32 (ofZ w32 (w .hi)) ∷ toZ w32 (ofZ w32 (x .hi)) ∷ toZ w32 (ofZ w32 (y .hi)) ∷ toZ w32 (ofZ w32 (z .hi)) ∷ [];
       mask = 0 ∷ 0 ∷ 0 ∷ 0 ∷ [];
-    } ≡ recordOf (combined (schemaOf schema) (forced a b (policiesOf (schemaOf schema) p)) n)
+    } ≡ recordOf (combined (schemaOf schema) (selected schema p list listed) n)
 unfolding recordOf four
-four-done schema p a b n rows places offset r w x y z u h wl xl yl zl wh xh yh zh =
-    let at = done-at schema p a b n rows places offset r u h in
+four-done schema p list listed n rows places offset r w x y z u h wl xl yl zl wh xh yh zh =
+    let at = done-at schema p list listed n rows places offset r u h in
     rw (
       kept (w .lo) wl,
       kept (x .lo) xl,

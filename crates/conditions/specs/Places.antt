@@ -9,7 +9,7 @@ use Rattle.fields.specs.Reading.{got}
 use Rattle.schema.specs.Schema.{Node, schemaOf, nodeAt, noVariable, isNumber}
 use Rattle.schema.specs.declared.Variable.{Variable}
 use Rattle.policies.specs.Policies.{Policy, conditions, rankCount, hasRule, rankOf, conditionsOf, policiesOf, policyAt}
-use Rattle.policies.specs.Pass.{forced}
+use Rattle.policies.specs.Pass.{selected}
 use Rattle.policies.specs.Index.{placeIn, offsetOf}
 use Rattle.model.specs.Satisfaction.{every}
 
@@ -36,10 +36,10 @@ pub record SaidAt (g : List Node) (s : List ℕ) (q : Policy) (n p : ℕ) : Type
   pub conditions : conditions s (nodeAt g n .variables) (p + rankCount (nodeAt g n)) ≡ got (conditionsOf q n) end
 
 -- the first rows of places tell where each policy in force in the file p that has a PN of node n speaks of it
-pub record Found (schema p : List ℕ) (a b n rows : ℕ) (places : List ℕ) : Type 0 where
-  pub rows-is : rows ≡ length (speaking n (forced a b (policiesOf (schemaOf schema) p)))
+pub record Found (schema p list : List ℕ) (listed n rows : ℕ) (places : List ℕ) : Type 0 where
+  pub rows-is : rows ≡ length (speaking n (selected schema p list listed))
   pub few : rows ≤ 16
-  pub each : (r : ℕ) → r < rows → SaidAt (schemaOf schema) p (policyAt (speaking n (forced a b (policiesOf (schemaOf schema) p))) r) n (getD places r 0)
+  pub each : (r : ℕ) → r < rows → SaidAt (schemaOf schema) p (policyAt (speaking n (selected schema p list listed)) r) n (getD places r 0)
 
 -- ---- for the contracts of functions that no other crate calls
 

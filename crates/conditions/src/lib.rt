@@ -1,4 +1,4 @@
-// The conditions of schema and policies in force on a node's variables, combined.
+// The conditions of schema and listed policies on a node's variables, combined.
 ghost use mathlib.Core.Path.{_≡_};
 ghost use mathlib.Core.Bool.{true, false};
 ghost use Prim.Native.Nat.{_+_, _<_, _≤_};
@@ -7,8 +7,8 @@ ghost use Rattle.fields.specs.Reading.{be, signed};
 ghost use Rattle.numbers.specs.Bits.{ones};
 ghost use Rattle.schema.specs.Schema.{schemaOf, nodeAt, variableAt};
 ghost use Rattle.schema.specs.Table.{NodeIn};
-ghost use Rattle.policies.specs.Policies.{range, mask, policiesOf};
-ghost use Rattle.policies.specs.Pass.{forced, Listing, InForce};
+ghost use Rattle.policies.specs.Policies.{range, mask};
+ghost use Rattle.policies.specs.Pass.{Listing, selected, Selected};
 ghost use Rattle.policies.specs.Index.{IndexIn};
 ghost use Rattle.model.specs.Reconciling.{own, both, restrictAll, combined};
 ghost use Rattle.conditions.specs.Held.{recordOf};
@@ -28,20 +28,18 @@ struct Range {
     hi: i32,
 }
 
-// Where the policies in force that have a PN of node n speak of it; how many they are.
+// Where the listed policies that have a PN of node n speak of it; how many they are.
 pub fn find(
     schema: &[u8],
     p: &[u8],
     index: &[usize],
     list: &[usize; 16],
     rows: usize,
-    a: u16,
-    b: u16,
     n: usize,
     places: &mut [usize; 16],
 ) -> usize
     requires { ⌜ IndexIn (now schema) (now p) (now index) ⌝ }
-    requires { ⌜ InForce (now schema) (now p) (now list) rows a b ⌝ }
+    requires { ⌜ Selected (now schema) (now p) (now list) rows ⌝ }
     requires { ⌜ n < length (schemaOf (now schema)) ⌝ }
     requires { ⌜ length (now places) ≡ 16 ⌝ }
     ensures { λ r. ⌜ Listing (spoken (now (index .entry)) (now (list .entry)) n rows) (now (places .entry)) (now (places .exit)) r ⌝ }
@@ -72,23 +70,23 @@ fn narrow_at(p: &[u8], at: usize, x: Range) -> Range
     }
 }
 
-// The range of node n's variable k, a number, narrowed by each policy in force.
+// The range of node n's variable k, a number, narrowed by each listed policy.
 fn narrow_range(
     schema: &[u8],
     p: &[u8],
     places: &[usize; 16],
     rows: usize,
-    a: u16,
-    b: u16,
+    list: &[usize; 16],
+    listed: usize,
     n: usize,
     k: usize,
     offset: usize,
     least: i32,
     most: i32,
 ) -> Range
-    requires { ⌜ Found (now schema) (now p) a b n rows (now places) ⌝ }
+    requires { ⌜ Found (now schema) (now p) (now list) listed n rows (now places) ⌝ }
     requires { ⌜ ConditionIn (schemaOf (now schema)) n k offset true ⌝ }
-    ensures { λ r. ⌜ range (r .lo) (r .hi) ≡ restrictAll (forced a b (policiesOf (schemaOf (now (schema .entry))) (now (p .entry)))) n k (range least most) ⌝ }
+    ensures { λ r. ⌜ range (r .lo) (r .hi) ≡ restrictAll (selected (now (schema .entry)) (now (p .entry)) (now (list .entry)) listed) n k (range least most) ⌝ }
 {
     let mut x = Range {
         lo: least,
@@ -102,23 +100,23 @@ fn narrow_range(
     x
 }
 
-// The mask of node n's variable k, a listed one of so many values, narrowed by each policy in force.
+// The mask of node n's variable k, a listed one of so many values, narrowed by each listed policy.
 fn narrow_mask(
     schema: &[u8],
     p: &[u8],
     places: &[usize; 16],
     rows: usize,
-    a: u16,
-    b: u16,
+    list: &[usize; 16],
+    listed: usize,
     n: usize,
     k: usize,
     offset: usize,
     size: u8,
 ) -> u32
-    requires { ⌜ Found (now schema) (now p) a b n rows (now places) ⌝ }
+    requires { ⌜ Found (now schema) (now p) (now list) listed n rows (now places) ⌝ }
     requires { ⌜ ConditionIn (schemaOf (now schema)) n k offset false ⌝ }
     requires { ⌜ size ≤ 32 ⌝ }
-    ensures { λ r. ⌜ mask r ≡ restrictAll (forced a b (policiesOf (schemaOf (now (schema .entry))) (now (p .entry)))) n k (mask (ones size)) ⌝ }
+    ensures { λ r. ⌜ mask r ≡ restrictAll (selected (now (schema .entry)) (now (p .entry)) (now (list .entry)) listed) n k (mask (ones size)) ⌝ }
 {
     let mut m = numbers::all_values(size);
     let mut r: usize = 0;
@@ -161,21 +159,21 @@ fn range_of(schema: &[u8], table: &[usize], n: usize, k: usize) -> Range
     }
 }
 
-// The combined conditions of node n, which has four numbers: each policy in force narrows all four in turn.
+// The combined conditions of node n, which has four numbers: each listed policy narrows all four in turn.
 fn combine_numbers(
     schema: &[u8],
     table: &[usize],
     p: &[u8],
     places: &[usize; 16],
     rows: usize,
-    a: u16,
-    b: u16,
+    list: &[usize; 16],
+    listed: usize,
     n: usize,
 ) -> Conditions
     requires { ⌜ NodeIn (now schema) (now table) n ⌝ }
-    requires { ⌜ Found (now schema) (now p) a b n rows (now places) ⌝ }
+    requires { ⌜ Found (now schema) (now p) (now list) listed n rows (now places) ⌝ }
     requires { ⌜ fourNumbers (nodeAt (schemaOf (now schema)) n .variables) ≡ true ⌝ }
-    ensures { λ r. ⌜ r ≡ recordOf (combined (schemaOf (now (schema .entry))) (forced a b (policiesOf (schemaOf (now (schema .entry))) (now (p .entry)))) n) ⌝ }
+    ensures { λ r. ⌜ r ≡ recordOf (combined (schemaOf (now (schema .entry))) (selected (now (schema .entry)) (now (p .entry)) (now (list .entry)) listed) n) ⌝ }
 {
     let offset = policies::rank_count(schema, table, n);
     let mut w = range_of(schema, table, n, 0);
@@ -204,13 +202,13 @@ fn combine_each(
     p: &[u8],
     places: &[usize; 16],
     rows: usize,
-    a: u16,
-    b: u16,
+    list: &[usize; 16],
+    listed: usize,
     n: usize,
 ) -> Conditions
     requires { ⌜ NodeIn (now schema) (now table) n ⌝ }
-    requires { ⌜ Found (now schema) (now p) a b n rows (now places) ⌝ }
-    ensures { λ r. ⌜ r ≡ recordOf (combined (schemaOf (now (schema .entry))) (forced a b (policiesOf (schemaOf (now (schema .entry))) (now (p .entry)))) n) ⌝ }
+    requires { ⌜ Found (now schema) (now p) (now list) listed n rows (now places) ⌝ }
+    ensures { λ r. ⌜ r ≡ recordOf (combined (schemaOf (now (schema .entry))) (selected (now (schema .entry)) (now (p .entry)) (now (list .entry)) listed) n) ⌝ }
 {
     let v = nodes::variable_count(schema, table, n);
     let mut lo = [0i32; 4];
@@ -221,7 +219,7 @@ fn combine_each(
     while k < v {
         match nodes::variable_of(schema, table, n, k) {
             Variable::Number { lo: l, hi: h } => {
-                let x = narrow_range(schema, p, places, rows, a, b, n, k, at, l, h);
+                let x = narrow_range(schema, p, places, rows, list, listed, n, k, at, l, h);
                 let Range { lo: l, hi: h } = x;
                 lo[k] = l;
                 hi[k] = h;
@@ -229,7 +227,7 @@ fn combine_each(
                 k += 1;
             }
             Variable::Listed { size } => {
-                mask[k] = narrow_mask(schema, p, places, rows, a, b, n, k, at, size);
+                mask[k] = narrow_mask(schema, p, places, rows, list, listed, n, k, at, size);
                 at += 4;
                 k += 1;
             }
@@ -238,23 +236,23 @@ fn combine_each(
     Conditions { lo, hi, mask }
 }
 
-// The combined conditions of node n: the schema's, narrowed by each policy in force.
+// The combined conditions of node n: the schema's, narrowed by each listed policy.
 pub fn combine(
     schema: &[u8],
     table: &[usize],
     p: &[u8],
     places: &[usize; 16],
     rows: usize,
-    a: u16,
-    b: u16,
+    list: &[usize; 16],
+    listed: usize,
     n: usize,
 ) -> Conditions
     requires { ⌜ NodeIn (now schema) (now table) n ⌝ }
-    requires { ⌜ Found (now schema) (now p) a b n rows (now places) ⌝ }
-    ensures { λ r. ⌜ r ≡ recordOf (combined (schemaOf (now (schema .entry))) (forced a b (policiesOf (schemaOf (now (schema .entry))) (now (p .entry)))) n) ⌝ }
+    requires { ⌜ Found (now schema) (now p) (now list) listed n rows (now places) ⌝ }
+    ensures { λ r. ⌜ r ≡ recordOf (combined (schemaOf (now (schema .entry))) (selected (now (schema .entry)) (now (p .entry)) (now (list .entry)) listed) n) ⌝ }
 {
     if has_four_numbers(schema, table, n) {
-        return combine_numbers(schema, table, p, places, rows, a, b, n);
+        return combine_numbers(schema, table, p, places, rows, list, listed, n);
     }
-    combine_each(schema, table, p, places, rows, a, b, n)
+    combine_each(schema, table, p, places, rows, list, listed, n)
 }

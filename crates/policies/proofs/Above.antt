@@ -1,16 +1,15 @@
--- What the crates above have of the index, of the list of the policies in force, and of the pass.
+-- What the crates above have of the index, of policies listed by position, and of the pass.
 -- Rests on what the contracts tell, and on Pass for the list.
-use mathlib.Core.Path.{_≡_, ap, sym, _∙_}
+use mathlib.Core.Path.{_≡_, refl, ap, ap₂, sym, _∙_}
 use mathlib.Core.Bool.{Bool, true, false, cond, _&&_}
 use mathlib.Core.List.{List, [], _∷_, _++_}
-use Prim.Native.Nat.{ℕ, suc, _+_, _*_, _≤_, _<_}
+use Prim.Native.Nat.{ℕ, zero, suc, _+_, _*_, _≤_, _<_}
 use native.Mathlib.Omega.{arith}
-use native.Mathlib.Nat.{zero-add}
 use native.Mathlib.Numerals.{add-one}
 use borrow.Author.Tests.{leb-true}
-use lib.ListN.{length, getD, drop, replicate, length-replicate, List·getD-append}
+use lib.ListN.{length, getD, take, drop, replicate, length-replicate, length-append, List·getD-append}
 use lib.Dec.{leb}
-use lib.Seq.{drop-append-seam, drop-cons}
+use lib.Seq.{drop-cons, getD-take, length-take-le, take-append-seam}
 use Rattle.fields.specs.Reading.{got}
 use Rattle.fields.specs.Writing.{put}
 use Rattle.fields.proofs.Back.{chosen}
@@ -18,10 +17,10 @@ use Rattle.fields.proofs.Tests.{and-true}
 use Rattle.schema.specs.Schema.{schemaOf}
 use Rattle.schema.specs.Table.{AtMost}
 use Rattle.policies.specs.Policies.{Policy, noPolicy, policiesOf, policyAt}
-use Rattle.policies.specs.Pass.{pass, inForce, forced, positions, Listing, InForce}
+use Rattle.policies.specs.Pass.{pass, inForce, forced, positions, Listing, policiesAt, selected, Selected}
 use Rattle.policies.specs.Index.{IndexIn, PolicyIn, IndexRoom, policyOf}
 use Rattle.policies.proofs.Nodes.{nodes-few}
-use Rattle.policies.proofs.Pass.{positions-of, lists-count, lists-at}
+use Rattle.policies.proofs.Pass.{Lists, none, more, positions-of, lists-count, lists-at}
 use Rattle.policies.proofs.Sound.{stood}
 
 -- ---- the index
@@ -56,48 +55,76 @@ pub put-front : (t js : List ℕ) (i : ℕ) → i < length js → getD (put t 0 
 unfolding put
 put-front t js i h = List·getD-append js (drop (0 + length js) t) 0 i h
 
-put-again : (t js : List ℕ) → put (put t 0 js) 0 js ≡ put t 0 js
-unfolding put
-put-again t js =
-    ap (λ (k : ℕ). js ++ drop k (js ++ drop (0 + length js) t)) (zero-add (length js))
-    ∙ ap (λ (l : List ℕ). js ++ l) (drop-append-seam js (drop (0 + length js) t))
+-- the policies that were listed
+lists-policies : {ps : List Policy} {js : List ℕ} {xs : List Policy} → Lists ps js xs → policiesAt ps js ≡ xs
+unfolding policiesAt
+lists-policies none = refl
+lists-policies {ps} (more {j} {x} {js} {xs} h e t) = ap₂ (λ (q : Policy) (l : List Policy). q ∷ l) e (lists-policies t)
 
--- the list that was filled
-pub listed : (schema p : List ℕ) (a b : ℕ) (l₀ l : List ℕ) {rows : ℕ} → Listing (positions a b 0 (policiesOf (schemaOf schema) p)) l₀ l rows → InForce schema p l rows a b
-listed schema p a b l₀ l k =
-    let js = positions a b 0 (policiesOf (schemaOf schema) p) in
-    record { list = k .list ∙ sym (put-again l₀ js) ∙ ap (λ (x : List ℕ). put x 0 js) (sym (k .list)); count = k .count }
+-- the list that was filled: its first places are positions, and those of the policies in force
+module _ (schema p : List ℕ) (a b : ℕ) (l₀ l : List ℕ) {rows : ℕ} (k : Listing (positions a b 0 (policiesOf (schemaOf schema) p)) l₀ l rows) where
+  abbrev js : List ℕ
+  js = positions a b 0 (policiesOf (schemaOf schema) p)
 
-module _ (schema p list : List ℕ) (a b : ℕ) {rows : ℕ} (f : InForce schema p list rows a b) where
-  pub force-rows : rows ≡ length (forced a b (policiesOf (schemaOf schema) p))
-  force-rows = f .count ∙ lists-count (positions-of a b (policiesOf (schemaOf schema) p))
+  abbrev lists : Lists (policiesOf (schemaOf schema) p) js (forced a b (policiesOf (schemaOf schema) p))
+  lists = positions-of a b (policiesOf (schemaOf schema) p)
 
-  pub force-few : rows ≤ 16
-  force-few = omega (arith, force-rows, forced-few a b (policiesOf (schemaOf schema) p), stood (schemaOf schema) p .sound .few)
+  pub selects : Selected schema p l rows
+  unfolding put
+  selects =
+      record {
+        few = omega (arith, k .count, lists-count lists, forced-few a b (policiesOf (schemaOf schema) p), stood (schemaOf schema) p .sound .few);
+        long = omega (arith, k .count, ap length (k .list) ∙ length-append js (drop (0 + length js) l₀));
+        below = λ r h.
+            let i : r < length js = omega (arith, k .count) in
+            let z : getD l r 0 ≡ getD js r 0 = ap (λ (x : List ℕ). getD x r 0) (k .list) ∙ put-front l₀ js r i in
+            omega (arith, z, lists-at lists r i .0);
+      }
 
-  -- the r-th of the list is the position of the r-th policy in force
+  pub selects-forced : selected schema p l rows ≡ forced a b (policiesOf (schemaOf schema) p)
+  unfolding selected put
+  selects-forced =
+      ap (policiesAt (policiesOf (schemaOf schema) p)) (ap₂ take (k .count) (k .list) ∙ take-append-seam js (drop (0 + length js) l₀))
+      ∙ lists-policies lists
+
+at-count : (ps : List Policy) (js : List ℕ) → length (policiesAt ps js) ≡ length js
+unfolding policiesAt
+at-count ps [] = refl
+at-count ps (j ∷ js) = ap suc (at-count ps js)
+
+at-is : (ps : List Policy) (js : List ℕ) (r : ℕ) → r < length js → policyAt ps (getD js r 0) ≡ policyAt (policiesAt ps js) r
+unfolding policiesAt
+at-is ps [] r h = absurd (omega arith)
+at-is ps (j ∷ js) zero h = refl
+at-is ps (j ∷ js) (suc r) h = at-is ps js r (omega arith)
+
+module _ (schema p list : List ℕ) {rows : ℕ} (f : Selected schema p list rows) where
+  pub selected-rows : rows ≡ length (selected schema p list rows)
+  unfolding selected
+  selected-rows = sym (at-count (policiesOf (schemaOf schema) p) (take rows list) ∙ length-take-le rows list (f .long))
+
+  pub selected-few : rows ≤ 16
+  selected-few = f .few
+
+  -- the r-th of the list is the position of the r-th policy
   module _ (r : ℕ) (h : r < rows) where
-    at : (getD (positions a b 0 (policiesOf (schemaOf schema) p)) r 0 < length (policiesOf (schemaOf schema) p))
-        × (policyOf schema p (getD (positions a b 0 (policiesOf (schemaOf schema) p)) r 0) ≡ policyAt (forced a b (policiesOf (schemaOf schema) p)) r)
-    at = lists-at (positions-of a b (policiesOf (schemaOf schema) p)) r (omega (arith, f .count))
+    pub selected-row : r < 16
+    selected-row = omega (arith, f .few)
 
-    here : getD list r 0 ≡ getD (positions a b 0 (policiesOf (schemaOf schema) p)) r 0
-    here = ap (λ (x : List ℕ). getD x r 0) (f .list) ∙ put-front list (positions a b 0 (policiesOf (schemaOf schema) p)) r (omega (arith, f .count))
+    pub selected-in : {index : List ℕ} → IndexIn schema p index → PolicyIn schema p index (getD list r 0)
+    selected-in e = record { index = e; below = f .below r h }
 
-    pub force-row : r < 16
-    force-row = omega (arith, force-few)
+    pub selected-is : policyOf schema p (getD list r 0) ≡ policyAt (selected schema p list rows) r
+    unfolding selected
+    selected-is =
+        ap (policyOf schema p) (sym (getD-take rows list r 0 h))
+        ∙ at-is (policiesOf (schemaOf schema) p) (take rows list) r (omega (arith, length-take-le rows list (f .long)))
 
-    pub force-in : {index : List ℕ} → IndexIn schema p index → PolicyIn schema p index (getD list r 0)
-    force-in e = record { index = e; below = omega (arith, here, at .0) }
-
-    pub force-is : policyOf schema p (getD list r 0) ≡ policyAt (forced a b (policiesOf (schemaOf schema) p)) r
-    force-is = ap (policyOf schema p) here ∙ at .1
-
-    -- and the policies in force from there on begin with it
-    pub force-drop : drop r (forced a b (policiesOf (schemaOf schema) p)) ≡ policyOf schema p (getD list r 0) ∷ drop (r + 1) (forced a b (policiesOf (schemaOf schema) p))
-    force-drop =
-        let qs = forced a b (policiesOf (schemaOf schema) p) in
-        rw (add-one r) (drop-cons qs r noPolicy (omega (arith, force-rows)) ∙ ap (λ (q : Policy). q ∷ drop (suc r) qs) (sym force-is))
+    -- and the policies from there on begin with it
+    pub selected-drop : drop r (selected schema p list rows) ≡ policyOf schema p (getD list r 0) ∷ drop (r + 1) (selected schema p list rows)
+    selected-drop =
+        let qs = selected schema p list rows in
+        rw (add-one r) (drop-cons qs r noPolicy (omega (arith, selected-rows)) ∙ ap (λ (q : Policy). q ∷ drop (suc r) qs) (sym selected-is))
 
 -- ---- the pass
 

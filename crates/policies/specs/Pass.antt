@@ -1,14 +1,14 @@
 -- The pass, and the policies in force in it (01, 'Instance and satisfaction').
-use Prim.Native.Nat.{ℕ, _+_}
+use Prim.Native.Nat.{ℕ, _+_, _≤_, _<_}
 use mathlib.Core.List.{List, [], _∷_}
 use mathlib.Core.Bool.{Bool, cond, _&&_}
 use mathlib.Core.Path.{_≡_}
 use lib.Dec.{leb}
-use lib.ListN.{length}
+use lib.ListN.{length, getD, take}
 use Rattle.fields.specs.Writing.{put}
 use Rattle.fields.specs.Reading.{Got, got, bad}
 use Rattle.schema.specs.Schema.{schemaOf}
-use Rattle.policies.specs.Policies.{Policy, policiesOf}
+use Rattle.policies.specs.Policies.{Policy, policiesOf, policyAt}
 
 -- '12 b below a or above a + 1; offset 0'; what is read is the first day
 unfoldable pub pass : ℕ → ℕ → Got ℕ
@@ -33,6 +33,19 @@ pub record Listing (js t₀ t : List ℕ) (n : ℕ) : Type 0 where
   pub list : t ≡ put t₀ 0 js
   pub count : n ≡ length js
 
--- the first n of the list t are the positions of the policies in force in the file p: to list them again changes nothing
-abbrev pub InForce : List ℕ → List ℕ → List ℕ → ℕ → ℕ → ℕ → Type 0
-InForce schema p t n a b = Listing (positions a b 0 (policiesOf (schemaOf schema) p)) t t n
+-- ---- some of the file's policies, by their positions: the engines know no more of a pass
+
+-- the policies at these positions
+unfoldable pub policiesAt : List Policy → List ℕ → List Policy
+policiesAt ps [] = []
+policiesAt ps (j ∷ js) = policyAt ps j ∷ policiesAt ps js
+
+-- those at the first n positions of the list t, in the file p under the schema file s
+unfoldable pub selected : List ℕ → List ℕ → List ℕ → ℕ → List Policy
+selected s p t n = policiesAt (policiesOf (schemaOf s) p) (take n t)
+
+-- the first n of the list t are positions of policies in the file p
+pub record Selected (s p t : List ℕ) (n : ℕ) : Type 0 where
+  pub few : n ≤ 16
+  pub long : n ≤ length t
+  pub below : (r : ℕ) → r < n → getD t r 0 < length (policiesOf (schemaOf s) p)

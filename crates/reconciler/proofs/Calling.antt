@@ -24,7 +24,8 @@ use Rattle.schema.specs.Table.{Tabled, Accepted, AtMost}
 use Rattle.schema.proofs.Sound.{Sound}
 use Rattle.schema.proofs.Accepted.{sound, schema-got}
 use Rattle.policies.specs.Policies.{Policy, policies, policiesOf, policiesIn}
-use Rattle.policies.specs.Pass.{pass, forced}
+use Rattle.policies.specs.Pass.{pass, forced, positions, Listing, selected}
+use Rattle.policies.proofs.Above.{selects-forced}
 use Rattle.policies.specs.Index.{Indexed, SchemaIn}
 use Rattle.policy_reader.specs.Answers.{Told, policiesRead}
 use Rattle.policies.proofs.Nodes.{nodes-few}
@@ -77,8 +78,8 @@ module _ (g : List Node) (nodes choices bits out : List ℕ) where
 
 -- ---- the tables before the first node
 
-pub planned-none : (s t p : List ℕ) (a b : ℕ) (bits : List ℕ) {count : ℕ} → SchemaIn s t count → BitsRoom s bits → Planned s p a b count (replicate 64 0) (replicate 64 255) bits
-planned-none s t p a b bits {count} e r =
+pub planned-none : (s t p list : List ℕ) (listed : ℕ) (bits : List ℕ) {count : ℕ} → SchemaIn s t count → BitsRoom s bits → Planned s p list listed count (replicate 64 0) (replicate 64 255) bits
+planned-none s t p list listed bits {count} e r =
     record {
       met = λ m x y. absurd (omega (arith, e .counted));
       choice = λ m x y. absurd (omega (arith, e .counted));
@@ -94,32 +95,38 @@ planned-none s t p a b bits {count} e r =
 
 -- ---- the plan's instance is the reconciled one
 
-module _ (s p : List ℕ) (a b : ℕ) (nodes choices bits : List ℕ) (A : Accepted s) (y : Bytes s) (w : Planned s p a b 0 nodes choices bits) where
+module _ (s p list : List ℕ) (listed : ℕ) (nodes choices bits : List ℕ) (A : Accepted s) (y : Bytes s) (w : Planned s p list listed 0 nodes choices bits) where
   S : Sound (schemaOf s)
   S = sound s y (A .some)
 
-  root : inSet nodes 0 ≡ can (schemaOf s) (rulesIn s p a b) 0
+  root : inSet nodes 0 ≡ can (schemaOf s) (rulesIn s p list listed) 0
   root = w .met 0 (omega arith) (A .some)
 
-  same-plan : (n : ℕ) → n < length (schemaOf s) → can (schemaOf s) (rulesIn s p a b) n ≡ true → plan (schemaOf s) (rulesIn s p a b) n ≡ planOf (schemaOf s) choices bits n
+  same-plan : (n : ℕ) → n < length (schemaOf s) → can (schemaOf s) (rulesIn s p list listed) n ≡ true → plan (schemaOf s) (rulesIn s p list listed) n ≡ planOf (schemaOf s) choices bits n
   unfolding plan planOf
   same-plan n h t =
       ap₂ (λ (x : ℕ) (xs : List ℤ). record { node = n; choice = x; values = xs }) (sym (w .choice n (omega arith) h t)) (sym (w .values n (omega arith) h t))
 
-  same-instance : plannedIn (schemaOf s) nodes choices bits ≡ reconciled (schemaOf s) (forced a b (policiesOf (schemaOf s) p))
+  same-instance : plannedIn (schemaOf s) nodes choices bits ≡ reconciled (schemaOf s) (selected s p list listed)
   unfolding plannedIn reconciled reconcile
   same-instance =
       ap (λ (t : Bool). cond t (some (planned (schemaOf s) (planOf (schemaOf s) choices bits))) none) root
-      ∙ go (can (schemaOf s) (rulesIn s p a b) 0) refl
+      ∙ go (can (schemaOf s) (rulesIn s p list listed) 0) refl
     where
-      go : (t : Bool) → can (schemaOf s) (rulesIn s p a b) 0 ≡ t
-          → _≡_ {A = Option (List Entry)} (cond t (some (planned (schemaOf s) (planOf (schemaOf s) choices bits))) none) (cond t (some (planned (schemaOf s) (plan (schemaOf s) (rulesIn s p a b)))) none)
-      go true e = ap {B = Option (List Entry)} some (sym (answer-by-plan (schemaOf s) S (rulesIn s p a b) (lawful (schemaOf s) S (forced a b (policiesOf (schemaOf s) p))) e (planOf (schemaOf s) choices bits) same-plan))
+      go : (t : Bool) → can (schemaOf s) (rulesIn s p list listed) 0 ≡ t
+          → _≡_ {A = Option (List Entry)} (cond t (some (planned (schemaOf s) (planOf (schemaOf s) choices bits))) none) (cond t (some (planned (schemaOf s) (plan (schemaOf s) (rulesIn s p list listed)))) none)
+      go true e = ap {B = Option (List Entry)} some (sym (answer-by-plan (schemaOf s) S (rulesIn s p list listed) (lawful (schemaOf s) S (selected s p list listed)) e (planOf (schemaOf s) choices bits) same-plan))
       go false e = refl
 
   pub settled : (out : List ℕ) {r : Answer} {after : List ℕ} → Did (given (schemaOf s) out (plannedIn (schemaOf s) nodes choices bits)) r after
-      → Did (given (schemaOf s) out (reconciled (schemaOf s) (forced a b (policiesOf (schemaOf s) p)))) r after
+      → Did (given (schemaOf s) out (reconciled (schemaOf s) (selected s p list listed))) r after
   settled out {r} {after} k = subst (λ (i : Option (List Entry)). Did (given (schemaOf s) out i) r after) same-instance k
+
+-- those listed are the policies in force
+pub in-force : (s p out : List ℕ) (a b : ℕ) (l₀ l : List ℕ) {rows : ℕ} {r : Answer} {after : List ℕ} → Listing (positions a b 0 (policiesOf (schemaOf s) p)) l₀ l rows
+    → Did (given (schemaOf s) out (reconciled (schemaOf s) (selected s p l rows))) r after → Did (given (schemaOf s) out (reconciled (schemaOf s) (forced a b (policiesOf (schemaOf s) p)))) r after
+in-force s p out a b l₀ l {r = r} {after} k d =
+    subst (λ (qs : List Policy). Did (given (schemaOf s) out (reconciled (schemaOf s) qs)) r after) (selects-forced s p a b l₀ l k) d
 
 -- ---- policies and pass
 

@@ -48,25 +48,25 @@ pass-below schema table n s h l = node-in schema table n s h l .below
 
 -- ---- one turn
 
-module _ (schema table p : List ℕ) (a b n : ℕ) (nodes choices bits after : List ℕ) {count : ℕ} {r : Plan} (Y : Bytes schema) (s : SchemaIn schema table count)
-    (w : Planned schema p a b n nodes choices bits) (h : 0 < n) (l : n ≤ count) (q : NodePlanned schema p a b (n - 1) nodes bits after r) where
+module _ (schema table p list : List ℕ) (listed n : ℕ) (nodes choices bits after : List ℕ) {count : ℕ} {r : Plan} (Y : Bytes schema) (s : SchemaIn schema table count)
+    (w : Planned schema p list listed n nodes choices bits) (h : 0 < n) (l : n ≤ count) (q : NodePlanned schema p list listed (n - 1) nodes bits after r) where
   A : Sound (schemaOf schema)
   A = sound schema Y (omega (arith, s .counted))
 
   here : n - 1 < length (schemaOf schema)
   here = omega (arith, s .counted)
 
-  above : (m : ℕ) → n - 1 < m → m < length (schemaOf schema) → inSet nodes m ≡ can (schemaOf schema) (rulesIn schema p a b) m
+  above : (m : ℕ) → n - 1 < m → m < length (schemaOf schema) → inSet nodes m ≡ can (schemaOf schema) (rulesIn schema p list listed) m
   above m x y = w .met m (omega arith) y
 
-  met-here : metBy r ≡ can (schemaOf schema) (rulesIn schema p a b) (n - 1)
-  met-here = q .met ∙ can-by-table (schemaOf schema) A (rulesIn schema p a b) (inSet nodes) (n - 1) here above
+  met-here : metBy r ≡ can (schemaOf schema) (rulesIn schema p list listed) (n - 1)
+  met-here = q .met ∙ can-by-table (schemaOf schema) A (rulesIn schema p list listed) (inSet nodes) (n - 1) here above
 
-  choice-here : metBy r ≡ true → choiceBy r ≡ plan (schemaOf schema) (rulesIn schema p a b) (n - 1) .choice
+  choice-here : metBy r ≡ true → choiceBy r ≡ plan (schemaOf schema) (rulesIn schema p list listed) (n - 1) .choice
   unfolding plan
-  choice-here e = q .choice e ∙ ap (λ (o : Option ℕ). cond (chooses (nodeAt (schemaOf schema) (n - 1))) (Option·getD o 255) 255) (taken-by-table (schemaOf schema) A (rulesIn schema p a b) (inSet nodes) (n - 1) above)
+  choice-here e = q .choice e ∙ ap (λ (o : Option ℕ). cond (chooses (nodeAt (schemaOf schema) (n - 1))) (Option·getD o 255) 255) (taken-by-table (schemaOf schema) A (rulesIn schema p list listed) (inSet nodes) (n - 1) above)
 
-  values-here : metBy r ≡ true → valuesFrom (nodeAt (schemaOf schema) (n - 1) .variables) after (4 * (n - 1)) ≡ plan (schemaOf schema) (rulesIn schema p a b) (n - 1) .values
+  values-here : metBy r ≡ true → valuesFrom (nodeAt (schemaOf schema) (n - 1) .variables) after (4 * (n - 1)) ≡ plan (schemaOf schema) (rulesIn schema p list listed) (n - 1) .values
   unfolding plan
   values-here e = q .values e
 
@@ -77,7 +77,7 @@ module _ (schema table p : List ℕ) (a b n : ℕ) (nodes choices bits after : L
   -- with these stores the tables tell of node n - 1 too
   turn : (nodes' choices' : List ℕ) → length nodes' ≡ 64 → length choices' ≡ 64
       → ((m : ℕ) → (m ≡ n - 1 → ⊥) → (getD nodes' m 0 ≡ getD nodes m 0) × (getD choices' m 0 ≡ getD choices m 0))
-      → inSet nodes' (n - 1) ≡ metBy r → (metBy r ≡ true → getD choices' (n - 1) 0 ≡ choiceBy r) → Planned schema p a b (n - 1) nodes' choices' after
+      → inSet nodes' (n - 1) ≡ metBy r → (metBy r ≡ true → getD choices' (n - 1) 0 ≡ choiceBy r) → Planned schema p list listed (n - 1) nodes' choices' after
   turn nodes' choices' ln lc f e g =
       record {
         met = λ m x y. met m x y (decLt (n - 1) m);
@@ -89,42 +89,42 @@ module _ (schema table p : List ℕ) (a b n : ℕ) (nodes choices bits after : L
         bits-room = record { long = omega (arith, q .long, w .bits-room .long) };
       }
     where
-      met : (m : ℕ) → n - 1 ≤ m → m < length (schemaOf schema) → Dec (n - 1 < m) → inSet nodes' m ≡ can (schemaOf schema) (rulesIn schema p a b) m
+      met : (m : ℕ) → n - 1 ≤ m → m < length (schemaOf schema) → Dec (n - 1 < m) → inSet nodes' m ≡ can (schemaOf schema) (rulesIn schema p list listed) m
       met m x y (yes z) = ap (λ (i : ℕ). eqb i 1) (f m (λ y. omega arith) .0) ∙ above m z y
-      met m x y (no z) = let k : m ≡ n - 1 = omega arith in subst (λ (i : ℕ). inSet nodes' i ≡ can (schemaOf schema) (rulesIn schema p a b) i) (sym k) (e ∙ met-here)
+      met m x y (no z) = let k : m ≡ n - 1 = omega arith in subst (λ (i : ℕ). inSet nodes' i ≡ can (schemaOf schema) (rulesIn schema p list listed) i) (sym k) (e ∙ met-here)
 
-      choice : (m : ℕ) → n - 1 ≤ m → m < length (schemaOf schema) → can (schemaOf schema) (rulesIn schema p a b) m ≡ true → Dec (n - 1 < m)
-          → getD choices' m 0 ≡ plan (schemaOf schema) (rulesIn schema p a b) m .choice
+      choice : (m : ℕ) → n - 1 ≤ m → m < length (schemaOf schema) → can (schemaOf schema) (rulesIn schema p list listed) m ≡ true → Dec (n - 1 < m)
+          → getD choices' m 0 ≡ plan (schemaOf schema) (rulesIn schema p list listed) m .choice
       choice m x y t (yes z) = f m (λ y. omega arith) .1 ∙ w .choice m (omega arith) y t
       choice m x y t (no z) =
           let k : m ≡ n - 1 = omega arith in
-          let o : metBy r ≡ true = met-here ∙ subst (λ (i : ℕ). can (schemaOf schema) (rulesIn schema p a b) i ≡ true) k t in
-          subst (λ (i : ℕ). getD choices' i 0 ≡ plan (schemaOf schema) (rulesIn schema p a b) i .choice) (sym k) (g o ∙ choice-here o)
+          let o : metBy r ≡ true = met-here ∙ subst (λ (i : ℕ). can (schemaOf schema) (rulesIn schema p list listed) i ≡ true) k t in
+          subst (λ (i : ℕ). getD choices' i 0 ≡ plan (schemaOf schema) (rulesIn schema p list listed) i .choice) (sym k) (g o ∙ choice-here o)
 
-      values : (m : ℕ) → n - 1 ≤ m → m < length (schemaOf schema) → can (schemaOf schema) (rulesIn schema p a b) m ≡ true → Dec (n - 1 < m)
-          → valuesFrom (nodeAt (schemaOf schema) m .variables) after (4 * m) ≡ plan (schemaOf schema) (rulesIn schema p a b) m .values
+      values : (m : ℕ) → n - 1 ≤ m → m < length (schemaOf schema) → can (schemaOf schema) (rulesIn schema p list listed) m ≡ true → Dec (n - 1 < m)
+          → valuesFrom (nodeAt (schemaOf schema) m .variables) after (4 * m) ≡ plan (schemaOf schema) (rulesIn schema p list listed) m .values
       values m x y t (yes z) = values-above m (omega arith) y ∙ w .values m (omega arith) y t
       values m x y t (no z) =
           let k : m ≡ n - 1 = omega arith in
-          let o : metBy r ≡ true = met-here ∙ subst (λ (i : ℕ). can (schemaOf schema) (rulesIn schema p a b) i ≡ true) k t in
-          subst (λ (i : ℕ). valuesFrom (nodeAt (schemaOf schema) i .variables) after (4 * i) ≡ plan (schemaOf schema) (rulesIn schema p a b) i .values) (sym k) (values-here o)
+          let o : metBy r ≡ true = met-here ∙ subst (λ (i : ℕ). can (schemaOf schema) (rulesIn schema p list listed) i ≡ true) k t in
+          subst (λ (i : ℕ). valuesFrom (nodeAt (schemaOf schema) i .variables) after (4 * i) ≡ plan (schemaOf schema) (rulesIn schema p list listed) i .values) (sym k) (values-here o)
 
   small : n - 1 < 64
   small = omega (arith, here, A .few)
 
-  pub pass-unmet : r ≡ Unmet → Planned schema p a b (n - 1) nodes choices after
+  pub pass-unmet : r ≡ Unmet → Planned schema p list listed (n - 1) nodes choices after
   pass-unmet e =
       turn nodes choices (w .nodes-long) (w .choices-long) (λ m x. (refl, refl))
       (ap (λ (i : ℕ). eqb i 1) (w .blank (n - 1) (omega arith) .0) ∙ sym (ap metBy e))
       (λ t. never (sym (ap metBy e) ∙ t))
 
-  pub pass-met : r ≡ Met → Planned schema p a b (n - 1) (set nodes (n - 1) 1) choices after
+  pub pass-met : r ≡ Met → Planned schema p list listed (n - 1) (set nodes (n - 1) 1) choices after
   pass-met e =
       turn (set nodes (n - 1) 1) choices (length-set nodes (n - 1) 1 ∙ w .nodes-long) (w .choices-long) (λ m x. (getD-set-other nodes (n - 1) m 1 0 x, refl))
       (ap (λ (i : ℕ). eqb i 1) (getD-set-same nodes (n - 1) 1 0 (omega (arith, small, w .nodes-long))) ∙ sym (ap metBy e))
       (λ t. w .blank (n - 1) (omega arith) .1 ∙ sym (ap choiceBy e))
 
-  pub pass-take : {k : ℕ} → r ≡ Take k → Planned schema p a b (n - 1) (set nodes (n - 1) 1) (set choices (n - 1) k) after
+  pub pass-take : {k : ℕ} → r ≡ Take k → Planned schema p list listed (n - 1) (set nodes (n - 1) 1) (set choices (n - 1) k) after
   pass-take {k} e =
       turn (set nodes (n - 1) 1) (set choices (n - 1) k) (length-set nodes (n - 1) 1 ∙ w .nodes-long) (length-set choices (n - 1) k ∙ w .choices-long)
       (λ m x. (getD-set-other nodes (n - 1) m 1 0 x, getD-set-other choices (n - 1) m k 0 x))
@@ -134,8 +134,8 @@ module _ (schema table p : List ℕ) (a b n : ℕ) (nodes choices bits after : L
   pub pass-small : {k : ℕ} → r ≡ Take k → k < 256
   pass-small e = subst (λ (x : Plan). choiceBy x < 256) e (q .small)
 
-pub pass-done : (schema p : List ℕ) (a b n : ℕ) (nodes choices bits : List ℕ) → Planned schema p a b n nodes choices bits → n ≤ 0 → Planned schema p a b 0 nodes choices bits
-pass-done schema p a b n nodes choices bits w h = let z : n ≡ 0 = omega arith in subst (λ (m : ℕ). Planned schema p a b m nodes choices bits) z w
+pub pass-done : (schema p list : List ℕ) (listed n : ℕ) (nodes choices bits : List ℕ) → Planned schema p list listed n nodes choices bits → n ≤ 0 → Planned schema p list listed 0 nodes choices bits
+pass-done schema p list listed n nodes choices bits w h = let z : n ≡ 0 = omega arith in subst (λ (m : ℕ). Planned schema p list listed m nodes choices bits) z w
 
 pub pass-place : (schema table : List ℕ) (n : ℕ) {count : ℕ} → SchemaIn schema table count → 0 < n → n ≤ count → n - 1 < 64
 pass-place schema table n s h l = node-small schema table (n - 1) (node-in schema table n s h l)

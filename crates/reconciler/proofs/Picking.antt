@@ -17,7 +17,7 @@ use Rattle.schema.specs.Table.{NodeIn}
 use Rattle.schema.proofs.Sound.{Sound}
 use Rattle.schema.proofs.Accepted.{sound}
 use Rattle.policies.specs.Policies.{Policy, rankOf, policiesOf, policyAt}
-use Rattle.policies.specs.Pass.{forced}
+use Rattle.policies.specs.Pass.{selected}
 use Rattle.instances.specs.Instance.{elem}
 use Rattle.model.specs.Satisfaction.{every, allowed}
 use Rattle.model.specs.Order.{betterBy, better}
@@ -131,8 +131,8 @@ module _ (schema : List ℕ) (A : Sound (schemaOf schema)) (ps : List Policy) (n
       let w = takes (best ok (betterIn t rows) (countUp columns 0)) (best-is ok (betterIn t rows) (in-strict t rows) (countUp columns 0)) in
       (ap (successorIn (schemaOf schema) n) (P .is) ∙ w .is, subst (λ (x : ℕ). x < 8 → x < length (nodeAt (schemaOf schema) n .successors)) (sym (P .is)) (w .inside))
 
-pub chosen-is : (schema table p : List ℕ) (a b n : ℕ) (places nodes set t : List ℕ) {rows columns r : ℕ} → NodeIn schema table n → Bytes schema → Found schema p a b n rows places → Columns schema n columns
-    → Ranked (speaking n (forced a b (policiesOf (schemaOf schema) p))) n rows columns t → SuccessorsIn (schemaOf schema) n columns nodes set → Picked t rows set columns r → Chosen schema p a b n nodes r
-chosen-is schema table p a b n places nodes set t {rows} {columns} {r} h y f c R S P =
-    let w = picked-takes schema (sound schema y (let z = h .below in omega arith)) (forced a b (policiesOf (schemaOf schema) p)) n columns rows t nodes set c (f .rows-is) R S P in
+pub chosen-is : (schema table p list : List ℕ) (listed n : ℕ) (places nodes set t : List ℕ) {rows columns r : ℕ} → NodeIn schema table n → Bytes schema → Found schema p list listed n rows places → Columns schema n columns
+    → Ranked (speaking n (selected schema p list listed)) n rows columns t → SuccessorsIn (schemaOf schema) n columns nodes set → Picked t rows set columns r → Chosen schema p list listed n nodes r
+chosen-is schema table p list listed n places nodes set t {rows} {columns} {r} h y f c R S P =
+    let w = picked-takes schema (sound schema y (let z = h .below in omega arith)) (selected schema p list listed) n columns rows t nodes set c (f .rows-is) R S P in
     record { is = w .0; inside = w .1 }

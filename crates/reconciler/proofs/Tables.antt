@@ -13,7 +13,7 @@ use lib.Seq.{getD-set-same, getD-set-other}
 use Rattle.schema.specs.Schema.{Node, schemaOf, nodeAt}
 use Rattle.schema.specs.Table.{SuccessorIs}
 use Rattle.policies.specs.Policies.{Policy, rankOf, policiesOf, policyAt}
-use Rattle.policies.specs.Pass.{forced}
+use Rattle.policies.specs.Pass.{selected}
 use Rattle.order.specs.Order.{rankIn, inSet}
 use Rattle.conditions.specs.Places.{speaking, SaidAt, Found}
 use Rattle.reconciler.specs.Plan.{Columns, Ranked, bytesFrom, RowFilled, SuccessorsIn}
@@ -63,9 +63,9 @@ said-inside g s q n at w = w .inside
 pub ranked-none : (ps : List Policy) (n columns : ℕ) (t : List ℕ) → length t ≡ 128 → Ranked ps n 0 columns t
 ranked-none ps n columns t e = record { ranks = λ j k h. absurd (omega arith); long = e }
 
-pub ranked-said : (schema p places : List ℕ) (a b n j : ℕ) {rows : ℕ} → Found schema p a b n rows places → j < rows
-    → SaidAt (schemaOf schema) p (policyAt (speaking n (forced a b (policiesOf (schemaOf schema) p))) j) n (getD places j 0)
-ranked-said schema p places a b n j f h = f .each j h
+pub ranked-said : (schema p places list : List ℕ) (listed n j : ℕ) {rows : ℕ} → Found schema p list listed n rows places → j < rows
+    → SaidAt (schemaOf schema) p (policyAt (speaking n (selected schema p list listed)) j) n (getD places j 0)
+ranked-said schema p places list listed n j f h = f .each j h
 
 pub ranked-more : (ps : List Policy) (n j columns : ℕ) (t u : List ℕ) → Ranked ps n j columns t → RowFilled (rankOf (policyAt ps j) n) j columns t u → columns ≤ 8 → Ranked ps n (j + 1) columns u
 ranked-more ps n j columns t u w r m = record { ranks = λ i k x y. one i k x y (decLt i j); long = r .long ∙ w .long }

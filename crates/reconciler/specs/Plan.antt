@@ -13,8 +13,8 @@ use lib.IntN.{ℤ}
 use lib.Signed.{leZ}
 use Rattle.fields.specs.Writing.{unsigned}
 use Rattle.schema.specs.Schema.{Node, schemaOf, nodeAt}
-use Rattle.policies.specs.Policies.{Policy, rankOf, rankCount, policiesOf, policyAt}
-use Rattle.policies.specs.Pass.{forced}
+use Rattle.policies.specs.Policies.{Policy, rankOf, rankCount, policyAt}
+use Rattle.policies.specs.Pass.{selected}
 use Rattle.instances.specs.Instance.{Entry, chooses}
 use Rattle.instances.specs.Plan.{planned, valuesFrom, planOf, BitsRoom}
 use Rattle.model.specs.Reconciling.{isSome, leastEach, Rules, taken, canStep, can, plan, rulesOf}
@@ -69,9 +69,9 @@ unfoldable pub successorIn : List Node → ℕ → ℕ → Option ℕ
 successorIn g n k = cond (ltb k 8) (some (getD (nodeAt g n .successors) k 0)) none
 
 -- column r is that of the successor that the model takes, where a set tells which nodes can be met
-pub record Chosen (schema p : List ℕ) (a b n : ℕ) (nodes : List ℕ) (r : ℕ) : Type 0 where
+pub record Chosen (schema p list : List ℕ) (listed n : ℕ) (nodes : List ℕ) (r : ℕ) : Type 0 where
   pub is : successorIn (schemaOf schema) n r
-      ≡ taken (schemaOf schema) (rulesOf (schemaOf schema) (forced a b (policiesOf (schemaOf schema) p))) (inSet nodes) n
+      ≡ taken (schemaOf schema) (rulesOf (schemaOf schema) (selected schema p list listed)) (inSet nodes) n
   pub inside : r < 8 → r < length (nodeAt (schemaOf schema) n .successors)
 
 abbrev pub metBy : Plan → Bool
@@ -84,27 +84,27 @@ choiceBy Unmet = 255
 choiceBy Met = 255
 choiceBy (Take s) = s
 
--- the rules of the policies in force
-abbrev pub rulesIn : List ℕ → List ℕ → ℕ → ℕ → Rules
-rulesIn schema p a b = rulesOf (schemaOf schema) (forced a b (policiesOf (schemaOf schema) p))
+-- the rules of the listed policies
+abbrev pub rulesIn : List ℕ → List ℕ → List ℕ → ℕ → Rules
+rulesIn schema p list listed = rulesOf (schemaOf schema) (selected schema p list listed)
 
 -- r is what the model does at node n, where a set tells which nodes above it can be met; its values' bits are in its four places
-pub record NodePlanned (schema p : List ℕ) (a b n : ℕ) (nodes t₀ t : List ℕ) (r : Plan) : Type 0 where
-  pub met : metBy r ≡ canStep (schemaOf schema) (rulesIn schema p a b) (inSet nodes) n
+pub record NodePlanned (schema p list : List ℕ) (listed n : ℕ) (nodes t₀ t : List ℕ) (r : Plan) : Type 0 where
+  pub met : metBy r ≡ canStep (schemaOf schema) (rulesIn schema p list listed) (inSet nodes) n
   pub choice : metBy r ≡ true
-      → choiceBy r ≡ cond (chooses (nodeAt (schemaOf schema) n)) (Option·getD (taken (schemaOf schema) (rulesIn schema p a b) (inSet nodes) n) 255) 255
+      → choiceBy r ≡ cond (chooses (nodeAt (schemaOf schema) n)) (Option·getD (taken (schemaOf schema) (rulesIn schema p list listed) (inSet nodes) n) 255) 255
   pub small : choiceBy r < 256
-  pub values : metBy r ≡ true → valuesFrom (nodeAt (schemaOf schema) n .variables) t (4 * n) ≡ Option·getD (rulesIn schema p a b .least n) []
+  pub values : metBy r ≡ true → valuesFrom (nodeAt (schemaOf schema) n .variables) t (4 * n) ≡ Option·getD (rulesIn schema p list listed .least n) []
   pub others : (i : ℕ) → (i < 4 * n) ⊎ (4 * n + 4 ≤ i) → getD t i 0 ≡ getD t₀ i 0
   pub long : length t ≡ length t₀
 
 -- the tables have what the model does at each node from n on, and nothing of those below
-pub record Planned (schema p : List ℕ) (a b n : ℕ) (nodes choices bits : List ℕ) : Type 0 where
-  pub met : (m : ℕ) → n ≤ m → m < length (schemaOf schema) → inSet nodes m ≡ can (schemaOf schema) (rulesIn schema p a b) m
-  pub choice : (m : ℕ) → n ≤ m → m < length (schemaOf schema) → can (schemaOf schema) (rulesIn schema p a b) m ≡ true
-      → getD choices m 0 ≡ plan (schemaOf schema) (rulesIn schema p a b) m .choice
-  pub values : (m : ℕ) → n ≤ m → m < length (schemaOf schema) → can (schemaOf schema) (rulesIn schema p a b) m ≡ true
-      → valuesFrom (nodeAt (schemaOf schema) m .variables) bits (4 * m) ≡ plan (schemaOf schema) (rulesIn schema p a b) m .values
+pub record Planned (schema p list : List ℕ) (listed n : ℕ) (nodes choices bits : List ℕ) : Type 0 where
+  pub met : (m : ℕ) → n ≤ m → m < length (schemaOf schema) → inSet nodes m ≡ can (schemaOf schema) (rulesIn schema p list listed) m
+  pub choice : (m : ℕ) → n ≤ m → m < length (schemaOf schema) → can (schemaOf schema) (rulesIn schema p list listed) m ≡ true
+      → getD choices m 0 ≡ plan (schemaOf schema) (rulesIn schema p list listed) m .choice
+  pub values : (m : ℕ) → n ≤ m → m < length (schemaOf schema) → can (schemaOf schema) (rulesIn schema p list listed) m ≡ true
+      → valuesFrom (nodeAt (schemaOf schema) m .variables) bits (4 * m) ≡ plan (schemaOf schema) (rulesIn schema p list listed) m .values
   pub blank : (m : ℕ) → m < n → (getD nodes m 0 ≡ 0) × (getD choices m 0 ≡ 255)
   pub nodes-long : length nodes ≡ 64
   pub choices-long : length choices ≡ 64

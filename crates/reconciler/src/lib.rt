@@ -7,7 +7,7 @@ ghost use Rattle.schema.specs.Schema.{schemaOf, nodeAt};
 ghost use Rattle.fields.specs.Outcomes.{Did, placed};
 ghost use Rattle.schema.specs.Table.{NodeIn, Accepted, Tabled, Room, AtMost};
 ghost use Rattle.policies.specs.Policies.{policiesOf, policyAt, rankOf};
-ghost use Rattle.policies.specs.Pass.{forced, InForce};
+ghost use Rattle.policies.specs.Pass.{forced, selected, Selected};
 ghost use Rattle.policies.specs.Index.{IndexIn, Indexed, IndexRoom, SchemaIn};
 ghost use Rattle.instances.specs.Instance.{chooses};
 ghost use Rattle.instances.specs.File.{encode};
@@ -85,20 +85,20 @@ fn fill_values(
     p: &[u8],
     places: &[usize; 16],
     rows: usize,
-    a: u16,
-    b: u16,
+    list: &[usize; 16],
+    listed: usize,
     n: usize,
     bits: &mut [u32],
 ) -> bool
     requires { ⌜ NodeIn (now schema) (now table) n ⌝ }
-    requires { ⌜ Found (now schema) (now p) a b n rows (now places) ⌝ }
+    requires { ⌜ Found (now schema) (now p) (now list) listed n rows (now places) ⌝ }
     requires { ⌜ BitsRoom (now schema) (now bits) ⌝ }
-    ensures { λ r. ⌜ LeastIn (schemaOf (now (schema .entry))) n (recordOf (combined (schemaOf (now (schema .entry))) (forced a b (policiesOf (schemaOf (now (schema .entry))) (now (p .entry)))) n)) (now (bits .entry)) (now (bits .exit)) r ⌝ }
+    ensures { λ r. ⌜ LeastIn (schemaOf (now (schema .entry))) n (recordOf (combined (schemaOf (now (schema .entry))) (selected (now (schema .entry)) (now (p .entry)) (now (list .entry)) listed) n)) (now (bits .entry)) (now (bits .exit)) r ⌝ }
 {
     if nodes::variable_count(schema, table, n) == 0 {
         return true;
     }
-    let c = conditions::combine(schema, table, p, places, rows, a, b, n);
+    let c = conditions::combine(schema, table, p, places, rows, list, listed, n);
     least_values(schema, table, n, c, bits)
 }
 
@@ -116,24 +116,24 @@ fn copy_row(p: &[u8], at: usize, j: usize, ranks: &mut [u8; 128])
     }
 }
 
-// Row j: the ranks of node n's successors in policy j of those in force that speak of the node, which does so from a place
+// Row j: the ranks of node n's successors in policy j of those listed that speak of the node, which does so from a place
 // on; eight bytes at once, where there are so many.
 fn gather_row(
     schema: &[u8],
     p: &[u8],
-    a: u16,
-    b: u16,
+    list: &[usize; 16],
+    listed: usize,
     j: usize,
     n: usize,
     at: usize,
     columns: usize,
     ranks: &mut [u8; 128],
 )
-    requires { ⌜ SaidAt (schemaOf (now schema)) (now p) (policyAt (speaking n (forced a b (policiesOf (schemaOf (now schema)) (now p)))) j) n at ⌝ }
+    requires { ⌜ SaidAt (schemaOf (now schema)) (now p) (policyAt (speaking n (selected (now schema) (now p) (now list) listed)) j) n at ⌝ }
     requires { ⌜ Columns (now schema) n columns ⌝ }
     requires { ⌜ j < 16 ⌝ }
     requires { ⌜ length (now ranks) ≡ 128 ⌝ }
-    ensures { λ _. ⌜ RowFilled (rankOf (policyAt (speaking n (forced a b (policiesOf (schemaOf (now (schema .entry))) (now (p .entry))))) j) n) j columns (now (ranks .entry)) (now (ranks .exit)) ⌝ }
+    ensures { λ _. ⌜ RowFilled (rankOf (policyAt (speaking n (selected (now (schema .entry)) (now (p .entry)) (now (list .entry)) listed)) j) n) j columns (now (ranks .entry)) (now (ranks .exit)) ⌝ }
 {
     if 8 <= p.len() - at {
         copy_row(p, at, j, ranks);
@@ -146,26 +146,26 @@ fn gather_row(
     }
 }
 
-// The ranks of node n's successors in the policies in force that speak of it.
+// The ranks of node n's successors in the listed policies that speak of it.
 fn gather(
     schema: &[u8],
     p: &[u8],
     places: &[usize; 16],
     rows: usize,
-    a: u16,
-    b: u16,
+    list: &[usize; 16],
+    listed: usize,
     n: usize,
     columns: usize,
     ranks: &mut [u8; 128],
 )
-    requires { ⌜ Found (now schema) (now p) a b n rows (now places) ⌝ }
+    requires { ⌜ Found (now schema) (now p) (now list) listed n rows (now places) ⌝ }
     requires { ⌜ Columns (now schema) n columns ⌝ }
     requires { ⌜ length (now ranks) ≡ 128 ⌝ }
-    ensures { λ _. ⌜ Ranked (speaking n (forced a b (policiesOf (schemaOf (now (schema .entry))) (now (p .entry))))) n rows columns (now (ranks .exit)) ⌝ }
+    ensures { λ _. ⌜ Ranked (speaking n (selected (now (schema .entry)) (now (p .entry)) (now (list .entry)) listed)) n rows columns (now (ranks .exit)) ⌝ }
 {
     let mut j: usize = 0;
     while j < rows {
-        gather_row(schema, p, a, b, j, n, places[j], columns, ranks);
+        gather_row(schema, p, list, listed, j, n, places[j], columns, ranks);
         j += 1;
     }
 }
@@ -199,21 +199,21 @@ fn choose(
     p: &[u8],
     places: &[usize; 16],
     rows: usize,
-    a: u16,
-    b: u16,
+    list: &[usize; 16],
+    listed: usize,
     n: usize,
     nodes: &[u8; 64],
     ranks: &mut [u8; 128],
 ) -> usize
     requires { ⌜ NodeIn (now schema) (now table) n ⌝ }
-    requires { ⌜ Found (now schema) (now p) a b n rows (now places) ⌝ }
+    requires { ⌜ Found (now schema) (now p) (now list) listed n rows (now places) ⌝ }
     requires { ⌜ chooses (nodeAt (schemaOf (now schema)) n) ≡ true ⌝ }
     requires { ⌜ length (now ranks) ≡ 128 ⌝ }
-    ensures { λ r. ⌜ Chosen (now (schema .entry)) (now (p .entry)) a b n (now (nodes .entry)) r ⌝ }
+    ensures { λ r. ⌜ Chosen (now (schema .entry)) (now (p .entry)) (now (list .entry)) listed n (now (nodes .entry)) r ⌝ }
     ensures { λ _. ⌜ length (now (ranks .exit)) ≡ 128 ⌝ }
 {
     let columns = nodes::successor_count(schema, table, n);
-    gather(schema, p, places, rows, a, b, n, columns, ranks);
+    gather(schema, p, places, rows, list, listed, n, columns, ranks);
     let mut set = [0u8; 8];
     fill_set(schema, table, n, columns, nodes, &mut set);
     order::pick(ranks, rows, columns, &set)
@@ -226,23 +226,34 @@ fn plan_node(
     p: &[u8],
     places: &[usize; 16],
     rows: usize,
-    a: u16,
-    b: u16,
+    list: &[usize; 16],
+    listed: usize,
     n: usize,
     nodes: &[u8; 64],
     ranks: &mut [u8; 128],
     bits: &mut [u32],
 ) -> Plan
     requires { ⌜ NodeIn (now schema) (now table) n ⌝ }
-    requires { ⌜ Found (now schema) (now p) a b n rows (now places) ⌝ }
+    requires { ⌜ Found (now schema) (now p) (now list) listed n rows (now places) ⌝ }
     requires { ⌜ length (now ranks) ≡ 128 ⌝ }
     requires { ⌜ BitsRoom (now schema) (now bits) ⌝ }
-    ensures { λ r. ⌜ NodePlanned (now (schema .entry)) (now (p .entry)) a b n (now (nodes .entry)) (now (bits .entry)) (now (bits .exit)) r ⌝ }
+    ensures { λ r. ⌜ NodePlanned (now (schema .entry)) (now (p .entry)) (now (list .entry)) listed n (now (nodes .entry)) (now (bits .entry)) (now (bits .exit)) r ⌝ }
     ensures { λ _. ⌜ length (now (ranks .exit)) ≡ 128 ⌝ }
 {
-    if fill_values(schema, table, p, places, rows, a, b, n, bits) {
+    if fill_values(schema, table, p, places, rows, list, listed, n, bits) {
         if instances::chooses(schema, table, n) {
-            let k = choose(schema, table, p, places, rows, a, b, n, nodes, ranks);
+            let k = choose(
+                schema,
+                table,
+                p,
+                places,
+                rows,
+                list,
+                listed,
+                n,
+                nodes,
+                ranks,
+            );
             if k < 8 {
                 return Plan::Take {
                     successor: nodes::successor_of(schema, table, n, k),
@@ -267,8 +278,6 @@ fn plan_each(
     index: &[usize],
     list: &[usize; 16],
     rows: usize,
-    a: u16,
-    b: u16,
     places: &mut [usize; 16],
     ranks: &mut [u8; 128],
     nodes: &mut [u8; 64],
@@ -277,17 +286,29 @@ fn plan_each(
 )
     requires { ⌜ SchemaIn (now schema) (now table) count ⌝ }
     requires { ⌜ IndexIn (now schema) (now p) (now index) ⌝ }
-    requires { ⌜ InForce (now schema) (now p) (now list) rows a b ⌝ }
+    requires { ⌜ Selected (now schema) (now p) (now list) rows ⌝ }
     requires { ⌜ length (now places) ≡ 16 ⌝ }
     requires { ⌜ length (now ranks) ≡ 128 ⌝ }
-    requires { ⌜ Planned (now schema) (now p) a b count (now nodes) (now choices) (now bits) ⌝ }
-    ensures { λ _. ⌜ Planned (now (schema .entry)) (now (p .entry)) a b 0 (now (nodes .exit)) (now (choices .exit)) (now (bits .exit)) ⌝ }
+    requires { ⌜ Planned (now schema) (now p) (now list) rows count (now nodes) (now choices) (now bits) ⌝ }
+    ensures { λ _. ⌜ Planned (now (schema .entry)) (now (p .entry)) (now (list .entry)) rows 0 (now (nodes .exit)) (now (choices .exit)) (now (bits .exit)) ⌝ }
 {
     let mut n = count;
     while 0 < n {
         n -= 1;
-        let found = conditions::find(schema, p, index, list, rows, a, b, n, places);
-        match plan_node(schema, table, p, places, found, a, b, n, nodes, ranks, bits) {
+        let found = conditions::find(schema, p, index, list, rows, n, places);
+        match plan_node(
+            schema,
+            table,
+            p,
+            places,
+            found,
+            list,
+            rows,
+            n,
+            nodes,
+            ranks,
+            bits,
+        ) {
             Plan::Unmet => {}
             Plan::Met => nodes[n] = 1,
             Plan::Take { successor } => {
@@ -307,17 +328,15 @@ fn plan_all(
     index: &[usize],
     list: &[usize; 16],
     rows: usize,
-    a: u16,
-    b: u16,
     nodes: &mut [u8; 64],
     choices: &mut [u8; 64],
     bits: &mut [u32],
 )
     requires { ⌜ SchemaIn (now schema) (now table) count ⌝ }
     requires { ⌜ IndexIn (now schema) (now p) (now index) ⌝ }
-    requires { ⌜ InForce (now schema) (now p) (now list) rows a b ⌝ }
-    requires { ⌜ Planned (now schema) (now p) a b count (now nodes) (now choices) (now bits) ⌝ }
-    ensures { λ _. ⌜ Planned (now (schema .entry)) (now (p .entry)) a b 0 (now (nodes .exit)) (now (choices .exit)) (now (bits .exit)) ⌝ }
+    requires { ⌜ Selected (now schema) (now p) (now list) rows ⌝ }
+    requires { ⌜ Planned (now schema) (now p) (now list) rows count (now nodes) (now choices) (now bits) ⌝ }
+    ensures { λ _. ⌜ Planned (now (schema .entry)) (now (p .entry)) (now (list .entry)) rows 0 (now (nodes .exit)) (now (choices .exit)) (now (bits .exit)) ⌝ }
 {
     let mut places = [0usize; 16];
     let mut ranks = [0u8; 128];
@@ -329,8 +348,6 @@ fn plan_all(
         index,
         list,
         rows,
-        a,
-        b,
         &mut places,
         &mut ranks,
         nodes,
@@ -408,7 +425,7 @@ fn answer_plan(
     }
 }
 
-// The instance for the listed policies in force, or none.
+// The instance for the listed policies, or none.
 fn settle_listed(
     schema: &[u8],
     table: &[usize],
@@ -417,17 +434,15 @@ fn settle_listed(
     index: &[usize],
     list: &[usize; 16],
     rows: usize,
-    a: u16,
-    b: u16,
     bits: &mut [u32],
     out: &mut [u8],
 ) -> Answer
     requires { ⌜ Accepted (now schema) ⌝ }
     requires { ⌜ SchemaIn (now schema) (now table) count ⌝ }
     requires { ⌜ IndexIn (now schema) (now p) (now index) ⌝ }
-    requires { ⌜ InForce (now schema) (now p) (now list) rows a b ⌝ }
+    requires { ⌜ Selected (now schema) (now p) (now list) rows ⌝ }
     requires { ⌜ BitsRoom (now schema) (now bits) ⌝ }
-    ensures { λ r. ⌜ Did (given (schemaOf (now (schema .entry))) (now (out .entry)) (reconciled (schemaOf (now (schema .entry))) (forced a b (policiesOf (schemaOf (now (schema .entry))) (now (p .entry)))))) r (now (out .exit)) ⌝ }
+    ensures { λ r. ⌜ Did (given (schemaOf (now (schema .entry))) (now (out .entry)) (reconciled (schemaOf (now (schema .entry))) (selected (now (schema .entry)) (now (p .entry)) (now (list .entry)) rows))) r (now (out .exit)) ⌝ }
 {
     let mut nodes = [0u8; 64];
     let mut choices = [255u8; 64];
@@ -439,8 +454,6 @@ fn settle_listed(
         index,
         list,
         rows,
-        a,
-        b,
         &mut nodes,
         &mut choices,
         bits,
@@ -469,7 +482,7 @@ fn settle(
 {
     let mut list = [0usize; 16];
     let rows = policies::list_in_force(schema, p, index, policies, a, b, &mut list);
-    settle_listed(schema, table, count, p, index, &list, rows, a, b, bits, out)
+    settle_listed(schema, table, count, p, index, &list, rows, bits, out)
 }
 
 // Policies and pass, the schema being accepted and its table filled.

@@ -5,29 +5,29 @@ use borrow.Author.Needs.{needs}
 use Prim.Native.Nat.{_-_}
 use Rattle.schema.specs.Schema.{schemaOf}
 use Rattle.policies.specs.Policies.{policiesOf}
-use Rattle.policies.specs.Pass.{forced}
-use Rattle.policies.proofs.Above.{force-few, force-in, force-row}
+use Rattle.policies.specs.Pass.{selected}
+use Rattle.policies.proofs.Above.{selected-few, selected-in, selected-row}
 use Rattle.checker.proofs.Choices.{Asking, asking-none, asking-no, asking-on, asking-done}
 use Rattle.checker.proofs.column_allowed.Statement.{statement}
 use Rattle.checker.proofs.column_allowed.Tie as tie
 
 abbrev Inv-loop : tie.InvT-loop
-Inv-loop schema p index list rows a b n k r₀ r = Asking (forced a b (policiesOf (schemaOf schema) p)) n k r
+Inv-loop schema p index list rows n k r₀ r = Asking (selected schema p list rows) n k r
 
 abbrev μ-loop : tie.MeasureT-loop
-μ-loop schema p index list rows a b n k r₀ r = rows - r
+μ-loop schema p index list rows n k r₀ r = rows - r
 
 loop-holds : tie.Need-loop-holds Inv-loop μ-loop
 loop-holds c = search asking-none
 
 mul-rank-of : tie.Need-mul-rank-of Inv-loop μ-loop
-mul-rank-of c = omega (arith, force-few)
+mul-rank-of c = omega (arith, selected-few)
 
 element-copy-out-rank-of : tie.Need-element-copy-out-rank-of Inv-loop μ-loop
-element-copy-out-rank-of c = search force-row
+element-copy-out-rank-of c = search selected-row
 
 rank-of-requires : tie.Need-rank-of-requires Inv-loop μ-loop
-rank-of-requires c κs = (search force-in, search needs)
+rank-of-requires c κs = (search selected-in, search needs)
 
 returns : tie.Need-returns Inv-loop μ-loop
 returns c = search asking-no
@@ -39,7 +39,7 @@ loop-less : tie.Need-loop-less Inv-loop μ-loop
 loop-less c = search needs
 
 loop-again : tie.Need-loop-again Inv-loop μ-loop
-loop-again c = asking-on _ _ _ _ _ _ _ _ (c .before .before .before .before .loop .inv) (c .before .before .before .before .before .before .before .before .pre .1 .0) (c .before .before .before .loop-test .taken) (c .before .rank-of .ensures) (c .if1 .left)
+loop-again c = asking-on _ _ _ _ _ _ (c .before .before .before .before .loop .inv) (c .before .before .before .before .before .before .before .before .pre .1 .0) (c .before .before .before .loop-test .taken) (c .before .rank-of .ensures) (c .if1 .left)
 
 returns-2 : tie.Need-returns-2 Inv-loop μ-loop
 returns-2 c = search asking-done

@@ -11,7 +11,7 @@ find-requires c κs = (search needs, (search needs, (search needs, search needs)
 combine-requires : tie.Need-combine-requires
 combine-requires c κs =
     let start = c .before .before .before .before .before .before .before in
-    (search needs, found-is _ _ _ _ _ _ _ (start .pre .1 .1) (start .pre .0 .below) (start .pre .1 .0) _ _ (c .before .find .ensures))
+    (search needs, found-is _ _ _ _ _ (start .pre .1 .1) (start .pre .0 .below) (start .pre .1 .0) _ _ (c .before .find .ensures))
 
 returns : tie.Need-returns
 returns c = search needs

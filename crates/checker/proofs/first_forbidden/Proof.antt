@@ -2,7 +2,7 @@
 -- Rests on the laws of the loop, in Entries.
 use Rattle.schema.specs.Schema.{schemaOf}
 use Rattle.policies.specs.Policies.{policiesOf}
-use Rattle.policies.specs.Pass.{forced}
+use Rattle.policies.specs.Pass.{selected}
 use Rattle.lookup.specs.Lookup.{instanceOf}
 use Rattle.model.specs.Comparing.{forbidden}
 use Rattle.checker.specs.Checks.{forbiddenIn}
@@ -12,10 +12,10 @@ use Rattle.checker.proofs.first_forbidden.Statement.{statement}
 use Rattle.checker.proofs.first_forbidden.Tie as tie
 
 abbrev Inv-loop : tie.InvT-loop
-Inv-loop schema table p index list rows a b s left₀ at₀ left at = Walking (schemaOf schema) (forced a b (policiesOf (schemaOf schema) p)) s (forbiddenIn (forbidden (schemaOf schema) (forced a b (policiesOf (schemaOf schema) p)) (instanceOf (schemaOf schema) s))) left at
+Inv-loop schema table p index list rows s left₀ at₀ left at = Walking (schemaOf schema) (selected schema p list rows) s (forbiddenIn (forbidden (schemaOf schema) (selected schema p list rows) (instanceOf (schemaOf schema) s))) left at
 
 abbrev μ-loop : tie.MeasureT-loop
-μ-loop schema table p index list rows a b s left₀ at₀ left at = left
+μ-loop schema table p index list rows s left₀ at₀ left at = left
 
 shared-slice-read-left : tie.Need-shared-slice-read-left Inv-loop μ-loop
 shared-slice-read-left c = search walking-inside

@@ -35,8 +35,8 @@ first-value-requires c κs = (search entry-node, (search needs, (search needs, s
 returns : tie.Need-returns
 returns c = search entry-on
 
-add-t13 : tie.Need-add-t13
-add-t13 c = search needs
+add-t11 : tie.Need-add-t11
+add-t11 c = search needs
 
 returns-2 : tie.Need-returns-2
 returns-2 c = entry-no _ _ (c .before .before .before .before .before .before .before .before .before .args .s .now) (c .before .before .before .before .before .before .before .before .before .args .at) (c .before .choice-allowed .ensures) (c .if1 .left)
@@ -55,5 +55,5 @@ first-in-entry-spec =
     add-first-value
     first-value-requires
     returns
-    add-t13
+    add-t11
     returns-2)

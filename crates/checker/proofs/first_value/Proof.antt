@@ -5,7 +5,7 @@ use borrow.Author.Needs.{needs}
 use Prim.Native.Nat.{_-_}
 use Rattle.schema.specs.Schema.{schemaOf, nodeAt}
 use Rattle.policies.specs.Policies.{policiesOf}
-use Rattle.policies.specs.Pass.{forced}
+use Rattle.policies.specs.Pass.{selected}
 use Rattle.instances.specs.File.{values}
 use Rattle.model.specs.Comparing.{forbiddenValue}
 use Rattle.checker.specs.Checks.{forbiddenIn, valuesIn}
@@ -14,10 +14,10 @@ use Rattle.checker.proofs.first_value.Statement.{statement}
 use Rattle.checker.proofs.first_value.Tie as tie
 
 abbrev Inv-loop : tie.InvT-loop
-Inv-loop schema table p index list rows a b n s from v c at₀ k₀ at k = Judging (schemaOf schema) (forced a b (policiesOf (schemaOf schema) p)) n s (forbiddenIn (forbiddenValue (forced a b (policiesOf (schemaOf schema) p)) n 0 (nodeAt (schemaOf schema) n .variables) (valuesIn (values s (nodeAt (schemaOf schema) n .variables) from)) from)) k at
+Inv-loop schema table p index list rows n s from v c at₀ k₀ at k = Judging (schemaOf schema) (selected schema p list rows) n s (forbiddenIn (forbiddenValue (selected schema p list rows) n 0 (nodeAt (schemaOf schema) n .variables) (valuesIn (values s (nodeAt (schemaOf schema) n .variables) from)) from)) k at
 
 abbrev μ-loop : tie.MeasureT-loop
-μ-loop schema table p index list rows a b n s from v c at₀ k₀ at k = v - k
+μ-loop schema table p index list rows n s from v c at₀ k₀ at k = v - k
 
 variable-count-requires : tie.Need-variable-count-requires Inv-loop μ-loop
 variable-count-requires c κs = search needs
@@ -40,7 +40,7 @@ width-of-requires c κs = search needs
 add-at : tie.Need-add-at Inv-loop μ-loop
 add-at c =
     judging-fits _ _ _ _ _ _ _ _ (c .before .before .before .before .before .loop .inv) (c .before .before .before .before .before .before .before .variable-count .ensures) (c .before .before .before .before .loop-test .taken) (c .before .before .before .is-number .ensures)
-    (omega (arith, c .before .before .before .before .before .before .before .before .before .before .before .before .before .good .1 .1 .1 .1 .1 .1 .1 .1 .1 .0)) (c .width-of .ensures)
+    (omega (arith, c .before .before .before .before .before .before .before .before .before .before .before .before .before .good .1 .1 .1 .1 .1 .1 .1 .0)) (c .width-of .ensures)
 
 add-k : tie.Need-add-k Inv-loop μ-loop
 add-k c = search needs

@@ -1,7 +1,7 @@
 -- The field that the walk found is the answer.
 -- Rests on the list of the policies in force, in Above, and on Answers.
-use Rattle.policies.proofs.Above.{listed}
-use Rattle.checker.proofs.Answers.{answering}
+use Rattle.policies.proofs.Above.{selects}
+use Rattle.checker.proofs.Answers.{judge-none-forced, judge-some-forced}
 use borrow.Author.Needs.{needs}
 use Rattle.checker.proofs.judge.Statement.{statement}
 use Rattle.checker.proofs.judge.Tie as tie
@@ -10,7 +10,7 @@ list-in-force-requires : tie.Need-list-in-force-requires
 list-in-force-requires c κs = search needs
 
 first-forbidden-requires : tie.Need-first-forbidden-requires
-first-forbidden-requires c κs = (search needs, (search needs, (search needs, (search listed, search needs))))
+first-forbidden-requires c κs = (search needs, (search needs, (search needs, (search selects, search needs))))
 
 enum-told : tie.Need-enum-told
 enum-told c = search needs
@@ -19,10 +19,10 @@ enum-known-offset : tie.Need-enum-known-offset
 enum-known-offset c = search needs
 
 returns : tie.Need-returns
-returns c = search answering
+returns c = search judge-none-forced
 
 returns-2 : tie.Need-returns-2
-returns-2 c = search answering
+returns-2 c = search judge-some-forced
 
 pub judge-spec : {M : Type 1} → statement M
 judge-spec =

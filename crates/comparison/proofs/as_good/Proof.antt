@@ -6,10 +6,10 @@ use Rattle.comparison.proofs.as_good.Statement.{statement}
 use Rattle.comparison.proofs.as_good.Tie as tie
 
 abbrev Inv-loop : tie.InvT-loop
-Inv-loop schema table p index list rows a b s t x y flags₀ n₀ flags n = Flagging schema p s t a b flags n
+Inv-loop schema table p index list rows s t x y flags₀ n₀ flags n = Flagging schema p s t list rows flags n
 
 abbrev μ-loop : tie.MeasureT-loop
-μ-loop schema table p index list rows a b s t x y flags₀ n₀ flags n = n
+μ-loop schema table p index list rows s t x y flags₀ n₀ flags n = n
 
 choices-requires : tie.Need-choices-requires Inv-loop μ-loop
 choices-requires c κs = search needs

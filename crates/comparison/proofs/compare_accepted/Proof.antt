@@ -1,7 +1,7 @@
 -- The list of the policies in force, then the order each way.
--- Rests on ranking-by and verdict-by, in Call.
+-- Rests on ranking-by and verdict-forced, in Call.
 use borrow.Author.Needs.{needs}
-use Rattle.comparison.proofs.Call.{ranking-by, verdict-by}
+use Rattle.comparison.proofs.Call.{ranking-by, verdict-forced}
 use Rattle.comparison.proofs.compare_accepted.Statement.{statement}
 use Rattle.comparison.proofs.compare_accepted.Tie as tie
 
@@ -18,7 +18,7 @@ verdict-of-requires : tie.Need-verdict-of-requires
 verdict-of-requires c κs = search needs
 
 returns : tie.Need-returns
-returns c = search verdict-by
+returns c = search verdict-forced
 
 pub compare-accepted-spec : {M : Type 1} → statement M
 compare-accepted-spec =

@@ -5,16 +5,16 @@ use borrow.Author.Needs.{needs}
 use Prim.Native.Nat.{_-_}
 use Rattle.schema.specs.Schema.{schemaOf}
 use Rattle.policies.specs.Policies.{policiesOf}
-use Rattle.policies.specs.Pass.{forced}
+use Rattle.policies.specs.Pass.{selected}
 use Rattle.comparison.proofs.Better.{rows-few, row-in, row-few, Deciding, deciding-start, better-less, better-more, better-on, better-done}
 use Rattle.comparison.proofs.is_better.Statement.{statement}
 use Rattle.comparison.proofs.is_better.Tie as tie
 
 abbrev Inv-loop : tie.InvT-loop
-Inv-loop schema table p index list rows a b n x y c d r₀ r = Deciding (schemaOf schema) (forced a b (policiesOf (schemaOf schema) p)) n x y r
+Inv-loop schema table p index list rows n x y c d r₀ r = Deciding (schemaOf schema) (selected schema p list rows) n x y r
 
 abbrev μ-loop : tie.MeasureT-loop
-μ-loop schema table p index list rows a b n x y c d r₀ r = rows - r
+μ-loop schema table p index list rows n x y c d r₀ r = rows - r
 
 column-of-requires : tie.Need-column-of-requires Inv-loop μ-loop
 column-of-requires c κs = search needs
@@ -57,7 +57,7 @@ loop-less c = search needs
 
 loop-again : tie.Need-loop-again Inv-loop μ-loop
 loop-again c =
-    better-on _ _ _ _ _ _ _ _ _ _ (c .before .before .before .before .before .before .before .loop .inv) (c .before .before .before .before .before .before .before .before .before .before .before .before .before .before .pre .1) (c .before .before .before .before .before .before .loop-test .taken)
+    better-on _ _ _ _ _ _ _ _ _ (c .before .before .before .before .before .before .before .loop .inv) (c .before .before .before .before .before .before .before .before .before .before .before .before .before .before .pre .1) (c .before .before .before .before .before .before .loop-test .taken)
     (c .before .before .before .before .before .before .before .before .before .column-of .ensures) (c .before .before .before .before .before .before .before .before .column-of2 .ensures)
     (c .before .before .before .before .rank-at .ensures) (c .before .before .rank-at2 .ensures) (c .before .if1 .left) (c .if2 .left)
 

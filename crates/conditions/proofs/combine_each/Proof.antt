@@ -3,17 +3,17 @@
 use Prim.Native.Nat.{_-_}
 use Rattle.schema.specs.Schema.{schemaOf}
 use Rattle.policies.specs.Policies.{policiesOf}
-use Rattle.policies.specs.Pass.{forced}
+use Rattle.policies.specs.Pass.{selected}
 use Rattle.conditions.proofs.Combining.{Combining, combining-none, turn-below, size-small, range-place, mask-place, combining-mask, combining-range, combining-done}
 use borrow.Author.Needs.{needs}
 use Rattle.conditions.proofs.combine_each.Statement.{statement}
 use Rattle.conditions.proofs.combine_each.Tie as tie
 
 abbrev Inv-loop : tie.InvT-loop
-Inv-loop schema table p places rows a b n v lo₀ hi₀ mask₀ at₀ k₀ lo hi mask at k = Combining (schemaOf schema) (forced a b (policiesOf (schemaOf schema) p)) n k at lo hi mask
+Inv-loop schema table p places rows list listed n v lo₀ hi₀ mask₀ at₀ k₀ lo hi mask at k = Combining (schemaOf schema) (selected schema p list listed) n k at lo hi mask
 
 abbrev μ-loop : tie.MeasureT-loop
-μ-loop schema table p places rows a b n v lo₀ hi₀ mask₀ at₀ k₀ lo hi mask at k = v - k
+μ-loop schema table p places rows list listed n v lo₀ hi₀ mask₀ at₀ k₀ lo hi mask at k = v - k
 
 variable-count-requires : tie.Need-variable-count-requires Inv-loop μ-loop
 variable-count-requires c κs = search needs

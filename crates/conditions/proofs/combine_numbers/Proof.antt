@@ -8,10 +8,10 @@ use Rattle.conditions.proofs.combine_numbers.Statement.{statement}
 use Rattle.conditions.proofs.combine_numbers.Tie as tie
 
 abbrev Inv-loop : tie.InvT-loop
-Inv-loop schema table p places rows a b n offset w₀ x₀ y₀ z₀ r₀ w x y z r = Four schema p a b n rows places offset r (range (w .lo) (w .hi)) (range (x .lo) (x .hi)) (range (y .lo) (y .hi)) (range (z .lo) (z .hi))
+Inv-loop schema table p places rows list listed n offset w₀ x₀ y₀ z₀ r₀ w x y z r = Four schema p list listed n rows places offset r (range (w .lo) (w .hi)) (range (x .lo) (x .hi)) (range (y .lo) (y .hi)) (range (z .lo) (z .hi))
 
 abbrev μ-loop : tie.MeasureT-loop
-μ-loop schema table p places rows a b n offset w₀ x₀ y₀ z₀ r₀ w x y z r = rows - r
+μ-loop schema table p places rows list listed n offset w₀ x₀ y₀ z₀ r₀ w x y z r = rows - r
 
 rank-count-requires : tie.Need-rank-count-requires Inv-loop μ-loop
 rank-count-requires c κs = search needs

@@ -2,29 +2,29 @@
 -- Rests on the laws of a row, in Finding.
 use Prim.Native.Nat.{_-_}
 use Rattle.conditions.proofs.Finding.{Finding, finding-none, finding-same, finding-more, finding-room, finding-done}
-use Rattle.policies.proofs.Above.{force-few, force-in, force-row}
+use Rattle.policies.proofs.Above.{selected-few, selected-in, selected-row}
 use native.Mathlib.Omega.{arith}
 use borrow.Author.Needs.{needs}
 use Rattle.conditions.proofs.find.Statement.{statement}
 use Rattle.conditions.proofs.find.Tie as tie
 
 abbrev Inv-loop : tie.InvT-loop
-Inv-loop schema p index list rows a b n places₀ m₀ i₀ places m i = Finding index list n rows i places₀ m places
+Inv-loop schema p index list rows n places₀ m₀ i₀ places m i = Finding index list n rows i places₀ m places
 
 abbrev μ-loop : tie.MeasureT-loop
-μ-loop schema p index list rows a b n places₀ m₀ i₀ places m i = rows - i
+μ-loop schema p index list rows n places₀ m₀ i₀ places m i = rows - i
 
 loop-holds : tie.Need-loop-holds Inv-loop μ-loop
 loop-holds c = search finding-none
 
 mul-place-of : tie.Need-mul-place-of Inv-loop μ-loop
-mul-place-of c = omega (arith, force-few)
+mul-place-of c = omega (arith, selected-few)
 
 element-copy-out-place-of : tie.Need-element-copy-out-place-of Inv-loop μ-loop
-element-copy-out-place-of c = search force-row
+element-copy-out-place-of c = search selected-row
 
 place-of-requires : tie.Need-place-of-requires Inv-loop μ-loop
-place-of-requires c κs = (search force-in, search needs)
+place-of-requires c κs = (search selected-in, search needs)
 
 add-i : tie.Need-add-i Inv-loop μ-loop
 add-i c = search needs
@@ -36,10 +36,10 @@ loop-again : tie.Need-loop-again Inv-loop μ-loop
 loop-again c = search finding-same
 
 mul-places : tie.Need-mul-places Inv-loop μ-loop
-mul-places c = omega (arith, force-few)
+mul-places c = omega (arith, selected-few)
 
 element-write-places : tie.Need-element-write-places Inv-loop μ-loop
-element-write-places c = search (finding-room, force-few)
+element-write-places c = search (finding-room, selected-few)
 
 add-m : tie.Need-add-m Inv-loop μ-loop
 add-m c = search needs
@@ -51,7 +51,7 @@ loop-less-2 : tie.Need-loop-less-2 Inv-loop μ-loop
 loop-less-2 c = search needs
 
 loop-again-2 : tie.Need-loop-again-2 Inv-loop μ-loop
-loop-again-2 c = search (finding-more, force-few)
+loop-again-2 c = search (finding-more, selected-few)
 
 returns : tie.Need-returns Inv-loop μ-loop
 returns c = search finding-done

@@ -4,7 +4,7 @@ use Prim.Native.Nat.{_-_}
 use Rattle.numbers.specs.Bits.{ones}
 use Rattle.schema.specs.Schema.{schemaOf}
 use Rattle.policies.specs.Policies.{mask, policiesOf}
-use Rattle.policies.specs.Pass.{forced}
+use Rattle.policies.specs.Pass.{selected}
 use Rattle.conditions.specs.Places.{speaking}
 use Rattle.conditions.proofs.Narrowing.{Narrowing, narrowing-mask-none, mask-room, mask-fits, narrowing-mask, narrowing-done}
 use borrow.Author.Needs.{needs}
@@ -12,10 +12,10 @@ use Rattle.conditions.proofs.narrow_mask.Statement.{statement}
 use Rattle.conditions.proofs.narrow_mask.Tie as tie
 
 abbrev Inv-loop : tie.InvT-loop
-Inv-loop schema p places rows a b n k offset size m₀ r₀ m r = Narrowing (speaking n (forced a b (policiesOf (schemaOf schema) p))) n k (mask (ones size)) r (mask m)
+Inv-loop schema p places rows list listed n k offset size m₀ r₀ m r = Narrowing (speaking n (selected schema p list listed)) n k (mask (ones size)) r (mask m)
 
 abbrev μ-loop : tie.MeasureT-loop
-μ-loop schema p places rows a b n k offset size m₀ r₀ m r = rows - r
+μ-loop schema p places rows list listed n k offset size m₀ r₀ m r = rows - r
 
 all-values-requires : tie.Need-all-values-requires Inv-loop μ-loop
 all-values-requires c κs = search needs

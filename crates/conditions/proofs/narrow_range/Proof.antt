@@ -3,7 +3,7 @@
 use Prim.Native.Nat.{_-_}
 use Rattle.schema.specs.Schema.{schemaOf}
 use Rattle.policies.specs.Policies.{range, policiesOf}
-use Rattle.policies.specs.Pass.{forced}
+use Rattle.policies.specs.Pass.{selected}
 use Rattle.conditions.specs.Places.{speaking}
 use Rattle.conditions.proofs.Narrowing.{Narrowing, narrowing-none, range-room, range-fits, narrowing-range, narrowing-bounds}
 use borrow.Author.Needs.{needs}
@@ -11,10 +11,10 @@ use Rattle.conditions.proofs.narrow_range.Statement.{statement}
 use Rattle.conditions.proofs.narrow_range.Tie as tie
 
 abbrev Inv-loop : tie.InvT-loop
-Inv-loop schema p places rows a b n k offset least most x₀ r₀ x r = Narrowing (speaking n (forced a b (policiesOf (schemaOf schema) p))) n k (range (x₀ .lo) (x₀ .hi)) r (range (x .lo) (x .hi))
+Inv-loop schema p places rows list listed n k offset least most x₀ r₀ x r = Narrowing (speaking n (selected schema p list listed)) n k (range (x₀ .lo) (x₀ .hi)) r (range (x .lo) (x .hi))
 
 abbrev μ-loop : tie.MeasureT-loop
-μ-loop schema p places rows a b n k offset least most x₀ r₀ x r = rows - r
+μ-loop schema p places rows list listed n k offset least most x₀ r₀ x r = rows - r
 
 loop-holds : tie.Need-loop-holds Inv-loop μ-loop
 loop-holds c = search narrowing-none

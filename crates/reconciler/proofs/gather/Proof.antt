@@ -3,7 +3,7 @@
 use Prim.Native.Nat.{_-_}
 use Rattle.schema.specs.Schema.{schemaOf}
 use Rattle.policies.specs.Policies.{policiesOf}
-use Rattle.policies.specs.Pass.{forced}
+use Rattle.policies.specs.Pass.{selected}
 use Rattle.conditions.specs.Places.{speaking}
 use Rattle.reconciler.proofs.Tables.{ranked-none, ranked-said, ranked-more, ranked-done}
 use Rattle.reconciler.specs.Plan.{Ranked}
@@ -12,10 +12,10 @@ use Rattle.reconciler.proofs.gather.Statement.{statement}
 use Rattle.reconciler.proofs.gather.Tie as tie
 
 abbrev Inv-loop : tie.InvT-loop
-Inv-loop schema p places rows a b n columns ranks₀ j₀ ranks j = Ranked (speaking n (forced a b (policiesOf (schemaOf schema) p))) n j columns ranks
+Inv-loop schema p places rows list listed n columns ranks₀ j₀ ranks j = Ranked (speaking n (selected schema p list listed)) n j columns ranks
 
 abbrev μ-loop : tie.MeasureT-loop
-μ-loop schema p places rows a b n columns ranks₀ j₀ ranks j = rows - j
+μ-loop schema p places rows list listed n columns ranks₀ j₀ ranks j = rows - j
 
 loop-holds : tie.Need-loop-holds Inv-loop μ-loop
 loop-holds c = search ranked-none

@@ -3,7 +3,7 @@
 use Prim.Native.Nat.{_-_}
 use Rattle.schema.specs.Schema.{schemaOf}
 use Rattle.policies.specs.Policies.{policiesOf, policyAt, rankOf}
-use Rattle.policies.specs.Pass.{forced}
+use Rattle.policies.specs.Pass.{selected}
 use Rattle.conditions.specs.Places.{speaking}
 use Rattle.reconciler.specs.Plan.{RowFilled}
 use Rattle.reconciler.proofs.Tables.{row-none, row-done, row-copied, rank-inside, rank-fits, row-next, said-inside}
@@ -12,10 +12,10 @@ use Rattle.reconciler.proofs.gather_row.Statement.{statement}
 use Rattle.reconciler.proofs.gather_row.Tie as tie
 
 abbrev Inv-loop : tie.InvT-loop
-Inv-loop schema p a b j n at columns ranks₀ k₀ ranks k = RowFilled (rankOf (policyAt (speaking n (forced a b (policiesOf (schemaOf schema) p))) j) n) j k ranks₀ ranks
+Inv-loop schema p list listed j n at columns ranks₀ k₀ ranks k = RowFilled (rankOf (policyAt (speaking n (selected schema p list listed)) j) n) j k ranks₀ ranks
 
 abbrev μ-loop : tie.MeasureT-loop
-μ-loop schema p a b j n at columns ranks₀ k₀ ranks k = columns - k
+μ-loop schema p list listed j n at columns ranks₀ k₀ ranks k = columns - k
 
 sub-if1 : tie.Need-sub-if1 Inv-loop μ-loop
 sub-if1 c = search said-inside

@@ -11,11 +11,11 @@ use Rattle.reconciler.proofs.plan_each.Statement.{statement}
 use Rattle.reconciler.proofs.plan_each.Tie as tie
 
 abbrev Inv-loop : tie.InvT-loop
-Inv-loop schema table count p index list rows a b places₀ ranks₀ nodes₀ choices₀ bits₀ n₀ places ranks nodes choices bits n =
-    Planned schema p a b n nodes choices bits × (n ≤ count) × (length bits ≡ length bits₀) × (length places ≡ 16) × (length ranks ≡ 128)
+Inv-loop schema table count p index list rows places₀ ranks₀ nodes₀ choices₀ bits₀ n₀ places ranks nodes choices bits n =
+    Planned schema p list rows n nodes choices bits × (n ≤ count) × (length bits ≡ length bits₀) × (length places ≡ 16) × (length ranks ≡ 128)
 
 abbrev μ-loop : tie.MeasureT-loop
-μ-loop schema table count p index list rows a b places₀ ranks₀ nodes₀ choices₀ bits₀ n₀ places ranks nodes choices bits n = n
+μ-loop schema table count p index list rows places₀ ranks₀ nodes₀ choices₀ bits₀ n₀ places ranks nodes choices bits n = n
 
 loop-holds : tie.Need-loop-holds Inv-loop μ-loop
 loop-holds c = (search needs, search needs, search needs, search needs, search needs)
@@ -33,7 +33,7 @@ plan-node-requires c κs =
     let loop = turn .before in
     let start = loop .before .before .before .before .before .before in
     let node = node-in _ _ _ (start .pre .0) (turn .loop-test .taken) (loop .loop .inv .1) in
-    (node, (found-is _ _ _ _ _ _ _ (start .pre .1 .1 .0) (node .below) (start .pre .1 .0) _ _ (found .find .ensures), (search needs, search needs)))
+    (node, (found-is _ _ _ _ _ (start .pre .1 .1 .0) (node .below) (start .pre .1 .0) _ _ (found .find .ensures), (search needs, search needs)))
 
 enum-told : tie.Need-enum-told Inv-loop μ-loop
 enum-told c = search needs
@@ -48,7 +48,7 @@ loop-again c =
     let turn = found .before .before in
     let loop = turn .before in
     let known = loop .before .before .before .before .before in
-    (pass-unmet _ _ _ _ _ _ _ _ _ _ (known .shared-slice-known .given) (known .before .pre .0) (loop .loop .inv .0) (turn .loop-test .taken) (loop .loop .inv .1) (done .plan-node .ensures .0) (c .enum-told .given .1), search needs, done .plan-node .ensures .0 .long ∙ loop .loop .inv .2, found-long _ _ _ _ _ _ _ (known .before .pre .1 .1 .0) _ _ (found .find .ensures) (loop .loop .inv .3), search needs)
+    (pass-unmet _ _ _ _ _ _ _ _ _ _ (known .shared-slice-known .given) (known .before .pre .0) (loop .loop .inv .0) (turn .loop-test .taken) (loop .loop .inv .1) (done .plan-node .ensures .0) (c .enum-told .given .1), search needs, done .plan-node .ensures .0 .long ∙ loop .loop .inv .2, found-long _ _ _ _ _ (known .before .pre .1 .1 .0) _ _ (found .find .ensures) (loop .loop .inv .3), search needs)
 
 enum-told-2 : tie.Need-enum-told-2 Inv-loop μ-loop
 enum-told-2 c = search needs
@@ -66,7 +66,7 @@ loop-again-2 c =
     let turn = found .before .before in
     let loop = turn .before in
     let known = loop .before .before .before .before .before in
-    (pass-met _ _ _ _ _ _ _ _ _ _ (known .shared-slice-known .given) (known .before .pre .0) (loop .loop .inv .0) (turn .loop-test .taken) (loop .loop .inv .1) (done .plan-node .ensures .0) (c .enum-told2 .given .1), search needs, done .plan-node .ensures .0 .long ∙ loop .loop .inv .2, found-long _ _ _ _ _ _ _ (known .before .pre .1 .1 .0) _ _ (found .find .ensures) (loop .loop .inv .3), search needs)
+    (pass-met _ _ _ _ _ _ _ _ _ _ (known .shared-slice-known .given) (known .before .pre .0) (loop .loop .inv .0) (turn .loop-test .taken) (loop .loop .inv .1) (done .plan-node .ensures .0) (c .enum-told2 .given .1), search needs, done .plan-node .ensures .0 .long ∙ loop .loop .inv .2, found-long _ _ _ _ _ (known .before .pre .1 .1 .0) _ _ (found .find .ensures) (loop .loop .inv .3), search needs)
 
 enum-known-successor : tie.Need-enum-known-successor Inv-loop μ-loop
 enum-known-successor c = search needs
@@ -96,7 +96,7 @@ loop-again-3 c =
     let turn = found .before .before in
     let loop = turn .before in
     let known = loop .before .before .before .before .before in
-    (pass-take _ _ _ _ _ _ _ _ _ _ (known .shared-slice-known .given) (known .before .pre .0) (loop .loop .inv .0) (turn .loop-test .taken) (loop .loop .inv .1) (done .plan-node .ensures .0) (c .before .successor .given .1), search needs, done .plan-node .ensures .0 .long ∙ loop .loop .inv .2, found-long _ _ _ _ _ _ _ (known .before .pre .1 .1 .0) _ _ (found .find .ensures) (loop .loop .inv .3), search needs)
+    (pass-take _ _ _ _ _ _ _ _ _ _ (known .shared-slice-known .given) (known .before .pre .0) (loop .loop .inv .0) (turn .loop-test .taken) (loop .loop .inv .1) (done .plan-node .ensures .0) (c .before .successor .given .1), search needs, done .plan-node .ensures .0 .long ∙ loop .loop .inv .2, found-long _ _ _ _ _ (known .before .pre .1 .1 .0) _ _ (found .find .ensures) (loop .loop .inv .3), search needs)
 
 same-length : tie.Need-same-length Inv-loop μ-loop
 same-length c = search needs
