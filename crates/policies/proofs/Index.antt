@@ -38,7 +38,7 @@ rules-length j p (x ∷ xs) t = rules-length j (p + ruleWidth x) xs (set t (16 +
 
 pub policy-length : (j h : ℕ) (x : Policy) (t : List ℕ) → length (fillPolicy j h x t) ≡ length t
 unfolding fillPolicy
-policy-length j h x t = rules-length j 7 (x .rules) (set t j h) ∙ length-set t j h
+policy-length j h x t = rules-length j (x .body) (x .rules) (set t j h) ∙ length-set t j h
 
 pub policies-length : (c h : ℕ) (xs : List Policy) (t : List ℕ) → length (fillPolicies c h xs t) ≡ length t
 unfolding fillPolicies
@@ -77,19 +77,19 @@ module _ (g : List Node) where
           (getD-set-other t (16 + 16 * x .node + j) (16 + 16 * n + j) (p + 3) 0 (λ w. e (omega arith)) ∙ z))
 
   module _ (j h : ℕ) (x : Policy) (s : SoundPolicy g x) (t : List ℕ) (small : j < 16) where
-    policy-row : (n : ℕ) → 16 + 16 * n + j < length t → getD t (16 + 16 * n + j) 0 ≡ 0 → getD (fillPolicy j h x t) (16 + 16 * n + j) 0 ≡ placeOf n 7 (x .rules)
+    policy-row : (n : ℕ) → 16 + 16 * n + j < length t → getD t (16 + 16 * n + j) 0 ≡ 0 → getD (fillPolicy j h x t) (16 + 16 * n + j) 0 ≡ placeOf n (x .body) (x .rules)
     unfolding fillPolicy
     policy-row n l z =
-        rules-row j 7 0 n (x .rules) (set t j h) (s .rules) (omega (arith, length-set t j h))
+        rules-row j (x .body) 0 n (x .rules) (set t j h) (s .rules) (omega (arith, length-set t j h))
         (getD-set-other t j (16 + 16 * n + j) h 0 (λ w. omega arith) ∙ z)
 
     policy-head : j < length t → getD (fillPolicy j h x t) j 0 ≡ h
     unfolding fillPolicy
-    policy-head l = rules-kept j 7 0 j (x .rules) (set t j h) (s .rules) (λ n l w. omega arith) ∙ getD-set-same t j h 0 l
+    policy-head l = rules-kept j (x .body) 0 j (x .rules) (set t j h) (s .rules) (λ n l w. omega arith) ∙ getD-set-same t j h 0 l
 
     policy-kept : (i : ℕ) → (i ≡ j → ⊥) → ((n : ℕ) → i ≡ 16 + 16 * n + j → ⊥) → getD (fillPolicy j h x t) i 0 ≡ getD t i 0
     unfolding fillPolicy
-    policy-kept i a e = rules-kept j 7 0 i (x .rules) (set t j h) (s .rules) (λ n l. e n) ∙ getD-set-other t j i h 0 a
+    policy-kept i a e = rules-kept j (x .body) 0 i (x .rules) (set t j h) (s .rules) (λ n l. e n) ∙ getD-set-other t j i h 0 a
 
 -- ---- the policies of a file
 
@@ -136,7 +136,7 @@ module _ (g : List Node) where
       }
 
   policies-row : (c h n : ℕ) (xs : List Policy) (t : List ℕ) → AllSound g xs → c + length xs ≤ 16 → Blank c t → n < length g → (j : ℕ) → j < length xs
-      → getD (fillPolicies c h xs t) (16 + 16 * n + (c + j)) 0 ≡ placeOf n 7 (policyAt xs j .rules)
+      → getD (fillPolicies c h xs t) (16 + 16 * n + (c + j)) 0 ≡ placeOf n (policyAt xs j .body) (policyAt xs j .rules)
   unfolding fillPolicies
   policies-row c h n [] t s l w a j b = absurd (omega arith)
   policies-row c h n (x ∷ xs) t s l w a zero b =
@@ -170,7 +170,7 @@ zeros (suc m) (suc i) = zeros m i
 
 module _ (g : List Node) (ps : List Policy) (m : ℕ) (long : 16 + 16 * length g ≤ m) (s : Sound g ps) (j : ℕ) (b : j < length ps) where
   -- place 16 + 16 n + j: where policy j's ranks of node n begin, counted from its head, 0 for nowhere
-  pub index-row : (n : ℕ) → n < length g → getD (indexOf m ps) (16 + 16 * n + j) 0 ≡ placeOf n 7 (policyAt ps j .rules)
+  pub index-row : (n : ℕ) → n < length g → getD (indexOf m ps) (16 + 16 * n + j) 0 ≡ placeOf n (policyAt ps j .body) (policyAt ps j .rules)
   unfolding indexOf
   index-row n a =
       ap (λ (i : ℕ). getD (fillPolicies 0 0 ps (replicate m 0)) (16 + 16 * n + i) 0) (sym (zero-add j))
@@ -200,4 +200,4 @@ place-none n p (x ∷ xs) = go (eqb (x .node) n) (place-none n (p + ruleWidth x)
 -- a place is 0 exactly if policy j has no rule for node n
 pub index-none : (g : List Node) (ps : List Policy) (m : ℕ) → 16 + 16 * length g ≤ m → Sound g ps → (j : ℕ) → j < length ps → (n : ℕ) → n < length g
     → eqb (getD (indexOf m ps) (16 + 16 * n + j) 0) 0 ≡ not (hasRule n (policyAt ps j .rules))
-index-none g ps m long s j b n a = ap (λ (i : ℕ). eqb i 0) (index-row g ps m long s j b n a) ∙ place-none n 7 (policyAt ps j .rules)
+index-none g ps m long s j b n a = ap (λ (i : ℕ). eqb i 0) (index-row g ps m long s j b n a) ∙ place-none n (policyAt ps j .body) (policyAt ps j .rules)

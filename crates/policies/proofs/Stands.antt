@@ -245,7 +245,8 @@ pub record PolicyAt (g : List Node) (s : List ℕ) (x : Policy) : Type 0 where
   pub read : head s ≡ got what after
   pub first : x .first ≡ what .first
   pub last : x .last ≡ what .last
-  pub rules : RulesAt g s 0 7 (x .rules)
+  pub body : x .body ≡ after
+  pub rules : RulesAt g s 0 (x .body) (x .rules)
 
 pub policy-back : (g : List Node) (s : List ℕ) {x : Policy} {q : ℕ} → policy g s ≡ got x q → Ends (PolicyAt g s x) q (policyWidth x)
 unfolding policy rules policyWidth
@@ -253,9 +254,8 @@ policy-back g s {x} {q} e =
     let h = went (head s) _ e in
     let r = went (many (rule g s) (λ _ x. x .node + 1) (h .value .count) 0 (h .after)) _ (h .then) in
     let z = r .then in
-    let k : record { first = h .value .first; last = h .value .last; rules = r .value } ≡ x = cc in
+    let k : record { first = h .value .first; last = h .value .last; body = h .after; rules = r .value } ≡ x = cc in
     let n : q ≡ r .after = cc in
-    let a = head-back s (h .first) in
     let b = rules-back g s (h .value .count) 0 (h .after) (r .first) in
     subst (λ (i : Policy). Ends (PolicyAt g s i) q (policyWidth i)) k
     (record {
@@ -266,9 +266,10 @@ policy-back g s {x} {q} e =
             read = h .first;
             first = refl;
             last = refl;
-            rules = subst (λ (i : ℕ). RulesAt g s 0 i (r .value)) (a .next) (b .stands);
+            body = refl;
+            rules = b .stands;
           };
-      next = omega (arith, a .next, b .next);
+      next = omega (arith, b .next);
     })
 
 -- ---- the policies of a file, one after the other

@@ -28,7 +28,7 @@ rulesWidth [] = 0
 rulesWidth (x ∷ xs) = ruleWidth x + rulesWidth xs
 
 unfoldable pub policyWidth : Policy → ℕ
-policyWidth x = 7 + rulesWidth (x .rules)
+policyWidth x = x .body + rulesWidth (x .rules)
 
 -- the same from the schema: the bytes of a variable's condition, and of the conditions before the k-th
 unfoldable pub span : Variable → ℕ
@@ -51,7 +51,7 @@ fillRules j p (x ∷ xs) t = fillRules j (p + ruleWidth x) xs (set t (16 + 16 * 
 
 -- place j: where policy j's head is in the file
 unfoldable pub fillPolicy : ℕ → ℕ → Policy → List ℕ → List ℕ
-fillPolicy j h x t = fillRules j 7 (x .rules) (set t j h)
+fillPolicy j h x t = fillRules j (x .body) (x .rules) (set t j h)
 
 unfoldable pub fillPolicies : ℕ → ℕ → List Policy → List ℕ → List ℕ
 fillPolicies j h [] t = t

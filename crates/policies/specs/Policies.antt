@@ -24,6 +24,8 @@ pub record Rule : Type 0 where
 pub record Policy : Type 0 where
   pub first : ℕ
   pub last : ℕ
+  -- where its PN begin, counted from its head
+  pub body : ℕ
   pub rules : List Rule
 
 abbrev pub PH : List ℕ
@@ -93,8 +95,8 @@ head s =
 unfoldable pub policy : List Node → List ℕ → Got Policy
 policy g s =
     part (head s) λ h p.
-    part (rules g s (h .count) 0 p) λ rs p.
-    got (record { first = h .first; last = h .last; rules = rs }) p
+    part (rules g s (h .count) 0 p) λ rs q.
+    got (record { first = h .first; last = h .last; body = p; rules = rs }) q
 
 -- a reading of the stretch from h on, as one of the whole file
 unfoldable pub onward : {A : Type 0} → ℕ → Got A → Got A
@@ -124,7 +126,7 @@ unfoldable pub policiesOf : List Node → List ℕ → List Policy
 policiesOf g s = policiesIn (policies g s)
 
 abbrev pub noPolicy : Policy
-noPolicy = record { first = 0; last = 0; rules = [] }
+noPolicy = record { first = 0; last = 0; body = 0; rules = [] }
 
 abbrev pub policyAt : List Policy → ℕ → Policy
 policyAt ps j = getD ps j noPolicy

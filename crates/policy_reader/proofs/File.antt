@@ -40,11 +40,11 @@ module _ (s : List ℕ) (p : ℕ) {x : Got Head} where
 
 -- ---- a head, then its PN
 
-rules-first : (j h : ℕ) (r : Got (List Rule)) (a l : ℕ) (t : List ℕ)
-    → runOf (fillRules j 7) r (set t j h) ≡ runOf (fillPolicy j h) (part r (λ xs q. got (record { first = a; last = l; rules = xs }) q)) t
+rules-first : (j h : ℕ) (r : Got (List Rule)) (a l p : ℕ) (t : List ℕ)
+    → runOf (fillRules j p) r (set t j h) ≡ runOf (fillPolicy j h) (part r (λ xs q. got (record { first = a; last = l; body = p; rules = xs }) q)) t
 unfolding fillPolicy part
-rules-first j h (got xs q) a l t = refl
-rules-first j h (bad n o) a l t = refl
+rules-first j h (got xs q) a l p t = refl
+rules-first j h (bad n o) a l p t = refl
 
 module _ (g : List Node) (s : List ℕ) (h j : ℕ) (t : List ℕ) {f : HeadRead} where
   pub policy-headless : {m o : ℕ} → head (drop h s) ≡ headIn f → f ≡ NoHead m o → refused m o ≡ runOf (fillPolicy j h) (policy g (drop h s)) t
@@ -56,11 +56,9 @@ module _ (g : List Node) (s : List ℕ) (h j : ℕ) (t : List ℕ) {f : HeadRead
   unfolding policy part
   policy-rules {a} {l} {n} {q} e k y =
       let z : head (drop h s) ≡ got (record { first = a; last = l; count = n }) q = e ∙ ap headIn k in
-      let i = head-back (drop h s) z .next in
       rw z
       (y ∙ ap (λ (b : List ℕ). runOf (fillRules j q) (rules g b n 0 q) (set t j h)) (rest s h)
-      ∙ ap (λ (p : ℕ). runOf (fillRules j p) (rules g (drop h s) n 0 q) (set t j h)) i
-      ∙ rules-first j h (rules g (drop h s) n 0 q) a l t)
+      ∙ rules-first j h (rules g (drop h s) n 0 q) a l q t)
 
 pub ruleset of-policy = (policy-headless, policy-rules)
 
