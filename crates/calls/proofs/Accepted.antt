@@ -4,8 +4,7 @@ use mathlib.Core.Path.{_≡_, subst}
 use mathlib.Core.List.{List}
 use Prim.Native.Nat.{ℕ}
 use Rattle.fields.specs.Reading.{got}
-use Rattle.fields.specs.Answers.{judged, success}
-use Rattle.fields.specs.Outcomes.{judgedIn}
+use Rattle.fields.specs.Answers.{judged, success, refusal}
 use Rattle.fields.proofs.Bytes.{Bytes}
 use Rattle.schema.specs.Schema.{Node, schema, schemaOf}
 use Rattle.schema.proofs.Sound.{Sound}
@@ -16,7 +15,8 @@ use Rattle.instances.specs.Instance.{Entry}
 use Rattle.instances.specs.File.{instance}
 use Rattle.model.specs.Reconciling.{reconciled}
 use Rattle.model.specs.Comparing.{compared, forbidden}
-use Rattle.calls.specs.Calls.{given, reconcilingUnder, reconciling, permitted, checkingInForce, checkingUnder, checking, comparingInForce, comparingUnder, comparing}
+use Rattle.calls.specs.Inputs.{withSchema, withPolicies, withPass, withInForce}
+use Rattle.calls.specs.Calls.{given, reconciling, permitted, checkingInForce, checking, comparingInForce, comparing}
 
 -- 'schema, policies and pass are accepted if checking them gives no number with file 1, 2 or 3'
 pub record Accepted (f p : List ℕ) (a b : ℕ) : Type 0 where
@@ -39,16 +39,16 @@ sound-read f h {g} e =
 
 module _ {f p : List ℕ} {a b : ℕ} (A : Accepted f p a b) where
   pub reconciling-is : (out : List ℕ) → reconciling f p a b out ≡ given (A .g) out (reconciled (A .g) (forced a b (A .ps)))
-  unfolding reconciling reconcilingUnder judgedIn
+  unfolding reconciling withSchema withPolicies withPass withInForce judged
   reconciling-is out = rw (A .schema-read, A .policies-read, A .pass-read)
 
-  pub checking-is : (s : List ℕ) → checking f p a b s ≡ judged 4 (instance (A .g) s) (λ i. permitted (forbidden (A .g) (forced a b (A .ps)) i))
-  unfolding checking checkingUnder checkingInForce judged
+  pub checking-is : (s : List ℕ) → checking f p a b s ≡ judged refusal 4 (instance (A .g) s) (λ i. permitted (forbidden (A .g) (forced a b (A .ps)) i))
+  unfolding checking checkingInForce withSchema withPolicies withPass withInForce judged
   checking-is s = rw (A .schema-read, A .policies-read, A .pass-read)
 
   pub comparing-is : (s t : List ℕ) {i j : List Entry} {q r : ℕ} → instance (A .g) s ≡ got i q → instance (A .g) t ≡ got j r
       → comparing f p a b s t ≡ success (compared (A .g) (forced a b (A .ps)) i j)
-  unfolding comparing comparingUnder comparingInForce judged
+  unfolding comparing comparingInForce withSchema withPolicies withPass withInForce judged
   comparing-is s t e h = rw (A .schema-read, A .policies-read, A .pass-read, e, h)
 
   pub sound-schema : Bytes f → Sound (A .g)

@@ -5,7 +5,7 @@ use mathlib.Core.List.{List, [], _∷_}
 use Prim.Native.Nat.{ℕ}
 use lib.Count.{trailingZeros}
 use Rattle.fields.specs.Answers.{judged, success}
-use Rattle.fields.specs.Outcomes.{judgedIn, placed, refused}
+use Rattle.fields.specs.Outcomes.{placed, refused}
 use Rattle.fields.specs.Reading.{part, be, whole, field, mark, many, ended}
 use Rattle.fields.specs.Writing.{spell, put}
 use Rattle.numbers.specs.Bits.{bit, ones, with, turned, withAll}
@@ -19,7 +19,8 @@ use Rattle.model.specs.Comparing.{compared, forbiddenValue, forbiddenEntry, for
 use Rattle.model.specs.Order.{betterBy, better, entryAt, within, goodChoice, goodAt, goodStep, good, asGood}
 use Rattle.model.specs.Reconciling.{best, taken, canStep, can, plan, reconcile, own, both, restrict, restrictAll, combinedFrom, combined, least, leastEach, reconciled}
 use Rattle.model.specs.Satisfaction.{columnOf, rank, conditionAt, admits, meets, allowed, admitted, choiceMeets}
-use Rattle.calls.specs.Calls.{given, reconcilingUnder, reconciling, permitted, checkingInForce, checkingUnder, checking, comparingInForce, comparingUnder, comparing}
+use Rattle.calls.specs.Inputs.{withSchema, withPolicies, withPass, withInForce}
+use Rattle.calls.specs.Calls.{given, reconciling, permitted, checkingInForce, checking, comparingInForce, comparing}
 
 -- the program's schema.bin
 pub example-schema : List ℕ
@@ -100,7 +101,7 @@ pub record Cases : Type 0 where
   pub apart : comparing two-schema [] 1 1 first-instance second-instance ≡ success 3
 
 pub cases : Cases
-unfolding trailingZeros example-schema example-policies three four signed-schema signed-policies mask-schema mask-policies shared-schema shared-instance two-schema first-instance second-instance buffer judged judgedIn placed part be whole field mark many ended spell put bit ones with turned withAll successors links number listed variable variables variablesOf node nodes body schema schemaOf pass inForce forced positions rankCount ranks condition conditions ruleOf rule rules head policy onward policiesFrom policies policiesOf ruleFor rankOf conditionsOf reached due noneBelow lowestDue valueWidth valueOf value values entryOf entry entries instance encodeValue encodeValues encodeEntry encodeEntries encode chooses reaches rightChoice inDomain has plannedFrom planned valuesFrom planOf compared forbiddenValue forbiddenEntry forbiddenFrom forbidden betterBy better entryAt within goodChoice goodAt goodStep good asGood best taken canStep can plan reconcile own both restrict restrictAll combinedFrom combined least leastEach reconciled columnOf rank conditionAt admits meets allowed admitted choiceMeets given reconcilingUnder reconciling permitted checking checkingUnder checkingInForce comparing comparingUnder comparingInForce
+unfolding trailingZeros example-schema example-policies three four signed-schema signed-policies mask-schema mask-policies shared-schema shared-instance two-schema first-instance second-instance buffer judged placed part be whole field mark many ended spell put bit ones with turned withAll successors links number listed variable variables variablesOf node nodes body schema schemaOf pass inForce forced positions rankCount ranks condition conditions ruleOf rule rules head policy onward policiesFrom policies policiesOf ruleFor rankOf conditionsOf reached due noneBelow lowestDue valueWidth valueOf value values entryOf entry entries instance encodeValue encodeValues encodeEntry encodeEntries encode chooses reaches rightChoice inDomain has plannedFrom planned valuesFrom planOf compared forbiddenValue forbiddenEntry forbiddenFrom forbidden betterBy better entryAt within goodChoice goodAt goodStep good asGood best taken canStep can plan reconcile own both restrict restrictAll combinedFrom combined least leastEach reconciled columnOf rank conditionAt admits meets allowed admitted choiceMeets withSchema withPolicies withPass withInForce given reconciling permitted checkingInForce checking comparingInForce comparing
 cases =
     record {
       line-1 = refl;

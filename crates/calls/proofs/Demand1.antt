@@ -9,11 +9,12 @@ use Prim.Native.Nat.{ℕ, _+_, _<_}
 use borrow.Author.Tests.{lt-leb}
 use lib.Dec.{leb}
 use lib.ListN.{length, drop}
-use Rattle.fields.specs.Reading.{Got, got, bad}
+use Rattle.fields.specs.Reading.{got, bad}
 use Rattle.fields.specs.declared.Answer.{Answer}
 use Rattle.fields.specs.Answers.{judged, success, refusal}
-use Rattle.fields.specs.Outcomes.{Outcome, refused, judgedIn, placed}
-use Rattle.fields.proofs.Refusals.{numbered}
+use Rattle.fields.specs.Outcomes.{Outcome, refused, leaving, placed}
+use Rattle.fields.proofs.Refusals.{ofFile, numbered}
+use Rattle.fields.proofs.Judged.{judged-all}
 use Rattle.schema.specs.Schema.{Node, schema}
 use Rattle.schema.proofs.Refusals as of-schema
 use Rattle.policies.specs.Policies.{Policy, policies}
@@ -21,11 +22,12 @@ use Rattle.policies.specs.Pass.{pass, forced}
 use Rattle.policies.proofs.Within.{policies-numbered, pass-numbered}
 use Rattle.instances.specs.Instance.{Entry}
 use Rattle.instances.specs.File.{instance, encode}
-use Rattle.copying.specs.Copying.{copyingUnder, copying}
 use Rattle.instances.proofs.Refusals as of-instance
 use Rattle.model.specs.Reconciling.{reconciled}
-use Rattle.model.specs.Comparing.{forbidden}
-use Rattle.calls.specs.Calls.{given, reconcilingUnder, reconciling, permitted, checkingInForce, checkingUnder, checking, comparingInForce, comparingUnder, comparing}
+use Rattle.model.specs.Comparing.{compared, forbidden}
+use Rattle.calls.specs.Inputs.{withSchema, withPolicies, withPass, withInForce}
+use Rattle.calls.specs.Calls.{given, reconciling, permitted, checkingInForce, checking, comparingInForce, comparing, copying}
+use Rattle.calls.proofs.Inputs.{schema-all, inputs-all}
 use Rattle.calls.proofs.Accepted.{Accepted, reconciling-is, checking-is}
 
 -- what the three calls that take policies answer
@@ -88,15 +90,11 @@ placed-short : (file out : List ℕ) → length out < length file → placed fil
 unfolding placed
 placed-short file out h = rw (lt-leb (length file) (length out) h)
 
-judged-untouched : {A : Type 0} (out : List ℕ) (file : ℕ) (r : Got A) (k : A → Outcome) → ((x : A) → Untouched out (k x)) → Untouched out (judgedIn out file r k)
-unfolding judgedIn
-judged-untouched out file (got x p) k z = z x
-judged-untouched out file (bad n o) k z = refused-untouched n file o out
+success-alone : (v : ℕ) → Alone (success v)
+success-alone v = record { value = λ h. absurd (h refl) }
 
-judged-alone : {A : Type 0} (file : ℕ) (r : Got A) (k : A → Answer) → ((x : A) → Alone (k x)) → Alone (judged file r k)
-unfolding judged
-judged-alone file (got x p) k z = z x
-judged-alone file (bad n o) k z = record { value = λ h. refl }
+refusal-alone : (n file o : ℕ) → ofFile n ≡ true → Alone (refusal n file o)
+refusal-alone n file o h = record { value = λ h. refl }
 
 permitted-alone : (o : Option ℕ) → Alone (permitted o)
 unfolding permitted
@@ -109,7 +107,7 @@ given-untouched g out none = refused-untouched 13 0 0 out
 given-untouched g out (some i) = placed-untouched (encode g i) out
 
 pub demand-1 : (f p : List ℕ) (a b : ℕ) (s t out : List ℕ) → Demand1 f p a b s t out
-unfolding reconciling reconcilingUnder checking checkingUnder checkingInForce comparing comparingUnder comparingInForce copying copyingUnder judged judgedIn given permitted
+unfolding reconciling checking checkingInForce comparing comparingInForce copying withSchema withPolicies withPass withInForce judged given permitted
 demand-1 f p a b s t out =
     record {
       schema-refused = λ {n} {o} e. record { number = of-schema.refused f e; reconcile = rw e; check = rw e; compare = rw e };
@@ -125,17 +123,22 @@ demand-1 f p a b s t out =
       short-buffer = λ A {i} e h. reconciling-is A out ∙ short-given (A .g) i e h;
       copy-short = λ {g} {i} {q} {r} e h x. rw (e, h) (placed-short (encode g i) out x);
       field-forbidden = λ A {i} {q} {o} e h. checking-is A s ∙ forbidden-at (A .g) (forced a b (A .ps)) e h;
-      reconcile-untouched =
-          judged-untouched out 1 (schema f) _ (λ g. judged-untouched out 2 (policies g p) _ (λ ps. judged-untouched out 3 (pass a b) _ (λ d. given-untouched g out (reconciled g (forced a b ps)))));
-      copy-untouched = judged-untouched out 1 (schema f) _ (λ g. judged-untouched out 4 (instance g s) _ (λ i. placed-untouched (encode g i) out));
+      reconcile-untouched = inputs-all (Untouched out) (leaving out) leaving-untouched f p a b _ λ g q e ps. given-untouched g out (reconciled g ps);
+      copy-untouched =
+          schema-all (Untouched out) (leaving out) leaving-untouched f _ λ g q e.
+          judged-all (Untouched out) (leaving out) 4 (instance g s) _ (of-instance.instance-numbered g s) leaving-untouched λ i r h. placed-untouched (encode g i) out;
       check-alone =
-          judged-alone 1 (schema f) _ (λ g.
-          judged-alone 2 (policies g p) _ (λ ps. judged-alone 3 (pass a b) _ (λ d. judged-alone 4 (instance g s) _ (λ i. permitted-alone (forbidden g (forced a b ps) i)))));
+          inputs-all Alone refusal refusal-alone f p a b _ λ g q e ps.
+          judged-all Alone refusal 4 (instance g s) _ (of-instance.instance-numbered g s) refusal-alone λ i r h. permitted-alone (forbidden g ps i);
       compare-alone =
-          judged-alone 1 (schema f) _ (λ g.
-          judged-alone 2 (policies g p) _ (λ ps. judged-alone 3 (pass a b) _ (λ d. judged-alone 4 (instance g s) _ (λ i. judged-alone 5 (instance g t) _ (λ j. record { value = λ h. absurd (h refl) })))));
+          inputs-all Alone refusal refusal-alone f p a b _ λ g q e ps.
+          judged-all Alone refusal 4 (instance g s) _ (of-instance.instance-numbered g s) refusal-alone λ i r h.
+          judged-all Alone refusal 5 (instance g t) _ (of-instance.instance-numbered g t) refusal-alone λ j r h. success-alone (compared g ps i j);
     }
   where
+    leaving-untouched : (n file o : ℕ) → ofFile n ≡ true → Untouched out (leaving out n file o)
+    leaving-untouched n file o h = refused-untouched n file o out
+
     none-given : (g : List Node) {i : Option (List Entry)} → i ≡ none → given g out i ≡ refused 13 0 0 out
     none-given g e = rw e
 
@@ -143,5 +146,5 @@ demand-1 f p a b s t out =
     short-given g i e h = rw e (placed-short (encode g i) out h)
 
     forbidden-at : (g : List Node) (ps : List Policy) {i : List Entry} {q o : ℕ} → instance g s ≡ got i q → forbidden g ps i ≡ some o
-        → judged 4 (instance g s) (λ i. permitted (forbidden g ps i)) ≡ refusal 18 4 o
+        → judged refusal 4 (instance g s) (λ i. permitted (forbidden g ps i)) ≡ refusal 18 4 o
     forbidden-at g ps e h = rw (e, h)

@@ -9,7 +9,7 @@ use native.Mathlib.Omega.{arith}
 use lib.ListN.{length}
 use Rattle.fields.specs.Reading.{Got, got, bad}
 use Rattle.fields.specs.declared.Answer.{Answer}
-use Rattle.fields.specs.Answers.{judged, success}
+use Rattle.fields.specs.Answers.{judged, success, refusal}
 use Rattle.fields.proofs.Bytes.{Bytes}
 use Rattle.schema.proofs.Sound.{Sound}
 use Rattle.policies.specs.Pass.{forced}
@@ -58,7 +58,7 @@ module _ (f p : List ℕ) (a b : ℕ) (h : Bytes f) (A : Accepted f p a b) where
   sound = sound-schema A h
 
   judge : (g : Got (List Entry)) → Answer
-  judge g = judged 4 g (λ i. permitted (forbidden (A .g) (forced a b (A .ps)) i))
+  judge g = judged refusal 4 g (λ i. permitted (forbidden (A .g) (forced a b (A .ps)) i))
 
   accepted : (s : List ℕ) → Bytes s → checking f p a b s .number ≡ 0 → Encodes f p a b A s
   unfolding judge judged

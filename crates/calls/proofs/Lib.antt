@@ -1,3 +1,4 @@
+pub mod Inputs
 pub mod Accepted
 pub mod Demand1
 pub mod Demand3

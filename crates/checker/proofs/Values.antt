@@ -21,7 +21,7 @@ use Rattle.schema.specs.Schema.{Node, schemaOf, nodeAt, noVariable, isNumber}
 use Rattle.schema.specs.Table.{AtMost}
 use Rattle.schema.specs.declared.Variable.{Variable}
 use Rattle.schema.specs.declared.Variable.the-variants.{Number, Listed}
-use Rattle.policies.specs.Policies.{mask, Policy, policiesOf}
+use Rattle.policies.specs.Policies.{mask, Policy}
 use Rattle.policies.specs.Pass.{selected}
 use Rattle.instances.specs.Instance.{inDomain}
 use Rattle.instances.specs.File.{valueWidth, valueOf, value, values}

@@ -3,25 +3,37 @@ ghost use mathlib.Core.Path.{_≡_};
 ghost use mathlib.Core.Bool.{true};
 ghost use Prim.Native.Nat.{_+_, _<_, _≤_};
 ghost use lib.ListN.{length};
+ghost use Rattle.fields.specs.Answers.{refusal};
 ghost use Rattle.numbers.specs.Bits.{bit};
-ghost use Rattle.schema.specs.Schema.{schemaOf, nodeAt};
-ghost use Rattle.schema.specs.Table.{Tabled, Accepted, NodeIn, AtMost, Room};
-ghost use Rattle.policies.specs.Policies.{policiesOf};
-ghost use Rattle.policies.specs.Pass.{forced, selected, Selected};
-ghost use Rattle.policies.specs.Index.{IndexIn, Indexed, RankIn, IndexRoom};
+ghost use Rattle.schema.specs.Schema.{mostNodes, schemaOf, nodeAt};
+ghost use Rattle.schema.specs.Table.{Tabled, Accepted, NodeIn, AtMost};
+ghost use Rattle.policies.specs.Pass.{selected, Selected};
+ghost use Rattle.policies.specs.Index.{IndexIn, RankIn};
 ghost use Rattle.instances.specs.Instance.{rightChoice};
 ghost use Rattle.instances.specs.File.{values};
 ghost use Rattle.lookup.specs.Lookup.{instanceOf, Readable};
 ghost use Rattle.model.specs.Satisfaction.{choiceMeets};
 ghost use Rattle.model.specs.Reconciling.{combined};
 ghost use Rattle.model.specs.Comparing.{forbiddenValue, forbiddenEntry, forbidden};
-ghost use Rattle.calls.specs.Calls.{permitted, checkingInForce, checkingUnder, checking};
+ghost use Rattle.calls.specs.Inputs.{withInForce};
+ghost use Rattle.inputs.specs.Inputs.{RoomFor};
+ghost use Rattle.calls.specs.Calls.{checkingInForce, checking};
 ghost use Rattle.conditions.specs.Held.{recordOf};
 ghost use Rattle.checker.specs.Checks.{forbiddenIn, allowedColumn, choosing, widthOf, admitsAt, valuesIn, ValuesThere, entryIn, EntryThere};
 use conditions::Conditions;
 use fields::Answer;
 use fields::Step;
-use policy_reader::PoliciesRead;
+use inputs::Inputs;
+use instances::ENTRY_WIDTH;
+use instances::HEAD_WIDTH;
+use instances::LISTED_WIDTH;
+use instances::NUMBER_WIDTH;
+use nodes::FEW_NODES;
+use nodes::FEW_TABLE_SLOTS;
+use nodes::TABLE_SLOTS;
+use policies::FEW_INDEX_SLOTS;
+use policies::INDEX_SLOTS;
+use policies::MOST_POLICIES;
 
 // The offset of the first field that is forbidden, if there is one.
 enum Forbidden {
@@ -34,7 +46,7 @@ fn column_allowed(
     schema: &[u8],
     p: &[u8],
     index: &[usize],
-    list: &[usize; 16],
+    list: &[usize; MOST_POLICIES],
     rows: usize,
     n: usize,
     k: usize,
@@ -60,7 +72,7 @@ fn choice_allowed(
     table: &[usize],
     p: &[u8],
     index: &[usize],
-    list: &[usize; 16],
+    list: &[usize; MOST_POLICIES],
     rows: usize,
     n: usize,
     x: usize,
@@ -92,7 +104,7 @@ fn has_value(m: u32, i: u8) -> bool
 fn width_of(number: bool) -> usize
     ensures { λ r. ⌜ r ≡ widthOf number ⌝ }
 {
-    if number { 4 } else { 1 }
+    if number { NUMBER_WIDTH } else { LISTED_WIDTH }
 }
 
 // Whether the condition at place k admits the value that stands at a place of the file.
@@ -117,7 +129,7 @@ fn conditions_of(
     table: &[usize],
     p: &[u8],
     index: &[usize],
-    list: &[usize; 16],
+    list: &[usize; MOST_POLICIES],
     rows: usize,
     n: usize,
 ) -> Conditions
@@ -126,9 +138,9 @@ fn conditions_of(
     requires { ⌜ Selected (now schema) (now p) (now list) rows ⌝ }
     ensures { λ r. ⌜ r ≡ recordOf (combined (schemaOf (now (schema .entry))) (selected (now (schema .entry)) (now (p .entry)) (now (list .entry)) rows) n) ⌝ }
 {
-    let mut places = [0usize; 16];
-    let found = conditions::find(schema, p, index, list, rows, n, &mut places);
-    conditions::combine(schema, table, p, &places, found, list, rows, n)
+    let mut offsets = [0usize; MOST_POLICIES];
+    let found = conditions::find(schema, p, index, list, rows, n, &mut offsets);
+    conditions::combine(schema, table, p, &offsets, found, n)
 }
 
 // The first of node n's values, from a place of the file on, that a listed policy does not admit.
@@ -137,7 +149,7 @@ fn first_value(
     table: &[usize],
     p: &[u8],
     index: &[usize],
-    list: &[usize; 16],
+    list: &[usize; MOST_POLICIES],
     rows: usize,
     n: usize,
     s: &[u8],
@@ -171,7 +183,7 @@ fn first_in_entry(
     table: &[usize],
     p: &[u8],
     index: &[usize],
-    list: &[usize; 16],
+    list: &[usize; MOST_POLICIES],
     rows: usize,
     s: &[u8],
     at: usize,
@@ -185,7 +197,7 @@ fn first_in_entry(
     let n = s[at + 2] as usize;
     let x = s[at + 3] as usize;
     if choice_allowed(schema, table, p, index, list, rows, n, x) {
-        return first_value(schema, table, p, index, list, rows, n, s, at + 4);
+        return first_value(schema, table, p, index, list, rows, n, s, at + ENTRY_WIDTH);
     }
     Forbidden::At { offset: at + 3 }
 }
@@ -196,7 +208,7 @@ fn first_forbidden(
     table: &[usize],
     p: &[u8],
     index: &[usize],
-    list: &[usize; 16],
+    list: &[usize; MOST_POLICIES],
     rows: usize,
     s: &[u8],
 ) -> Forbidden
@@ -208,7 +220,7 @@ fn first_forbidden(
     ensures { λ r. ⌜ r ≡ forbiddenIn (forbidden (schemaOf (now (schema .entry))) (selected (now (schema .entry)) (now (p .entry)) (now (list .entry)) rows) (instanceOf (schemaOf (now (schema .entry))) (now (s .entry)))) ⌝ }
 {
     let mut left = s[2];
-    let mut at: usize = 3;
+    let mut at = HEAD_WIDTH;
     while 0 < left {
         match first_in_entry(schema, table, p, index, list, rows, s, at) {
             Forbidden::At { offset } => {
@@ -216,7 +228,7 @@ fn first_forbidden(
             }
             Forbidden::Nowhere => {
                 let n = s[at + 2] as usize;
-                at = at + 4 + lookup::values_width(schema, table, n);
+                at = at + ENTRY_WIDTH + lookup::values_width(schema, table, n);
                 left -= 1;
             }
         }
@@ -224,72 +236,34 @@ fn first_forbidden(
     Forbidden::Nowhere
 }
 
-// The answer for an accepted instance.
-fn judge(
+// The instance, once schema, policies and pass are accepted: the listed policies are those in force.
+fn in_force(
     schema: &[u8],
     table: &[usize],
     p: &[u8],
     index: &[usize],
-    count: usize,
-    a: u16,
-    b: u16,
+    list: &[usize; MOST_POLICIES],
+    rows: usize,
     s: &[u8],
 ) -> Answer
     requires { ⌜ Accepted (now schema) ⌝ }
     requires { ⌜ Tabled (now schema) (now table) ⌝ }
-    requires { ⌜ Indexed (now schema) (now p) (now index) count ⌝ }
-    requires { ⌜ Readable (schemaOf (now schema)) (now s) ⌝ }
-    ensures { λ r. ⌜ r ≡ permitted (forbidden (schemaOf (now (schema .entry))) (forced a b (policiesOf (schemaOf (now (schema .entry))) (now (p .entry)))) (instanceOf (schemaOf (now (schema .entry))) (now (s .entry)))) ⌝ }
-{
-    let mut list = [0usize; 16];
-    let rows = policies::list_in_force(schema, p, index, count, a, b, &mut list);
-    match first_forbidden(schema, table, p, index, &list, rows, s) {
-        Forbidden::Nowhere => Answer {
-            number: 0,
-            file: 0,
-            offset: 0,
-            value: 0,
-        },
-        Forbidden::At { offset } => Answer {
-            number: 18,
-            file: 4,
-            offset,
-            value: 0,
-        },
-    }
-}
-
-// The answer after schema, policies and pass.
-fn check_instance(
-    schema: &[u8],
-    table: &[usize],
-    p: &[u8],
-    index: &[usize],
-    count: usize,
-    a: u16,
-    b: u16,
-    s: &[u8],
-) -> Answer
-    requires { ⌜ Accepted (now schema) ⌝ }
-    requires { ⌜ Tabled (now schema) (now table) ⌝ }
-    requires { ⌜ Indexed (now schema) (now p) (now index) count ⌝ }
-    ensures { λ r. ⌜ r ≡ checkingInForce (schemaOf (now (schema .entry))) (forced a b (policiesOf (schemaOf (now (schema .entry))) (now (p .entry)))) (now (s .entry)) ⌝ }
+    requires { ⌜ IndexIn (now schema) (now p) (now index) ⌝ }
+    requires { ⌜ Selected (now schema) (now p) (now list) rows ⌝ }
+    ensures { λ r. ⌜ r ≡ checkingInForce (schemaOf (now (schema .entry))) (selected (now (schema .entry)) (now (p .entry)) (now (list .entry)) rows) (now (s .entry)) ⌝ }
 {
     match instance_reader::read_instance(schema, table, s) {
-        Step::Bad { number, offset } => Answer {
-            number,
-            file: 4,
-            offset,
-            value: 0,
+        Step::Bad { number, offset } => fields::refusal(number, 4, offset),
+        Step::Next { at: _ } => match first_forbidden(schema, table, p, index, list, rows, s) {
+            Forbidden::Nowhere => fields::success(0),
+            Forbidden::At { offset } => fields::refusal(18, 4, offset),
         },
-        Step::Next { at: _ } => judge(schema, table, p, index, count, a, b, s),
     }
 }
 
-// The answer after the schema, with room for the table of its nodes and for the index of the policies.
-fn check_in(
+// Policies and pass, once the schema is accepted, with room for the table of its nodes and for the index of the policies.
+fn with_tables(
     schema: &[u8],
-    nodes: usize,
     p: &[u8],
     a: u16,
     b: u16,
@@ -297,59 +271,38 @@ fn check_in(
     table: &mut [usize],
     index: &mut [usize],
 ) -> Answer
-    requires { ⌜ Accepted (now schema) ⌝ }
-    requires { ⌜ AtMost 64 (length (schemaOf (now schema))) nodes ⌝ }
-    requires { ⌜ Room (now schema) (now table) ⌝ }
-    requires { ⌜ IndexRoom (now schema) (now index) ⌝ }
-    ensures { λ r. ⌜ r ≡ checkingUnder (schemaOf (now (schema .entry))) (now (p .entry)) a b (now (s .entry)) ⌝ }
+    requires { ⌜ RoomFor (now schema) (now table) (now index) ⌝ }
+    ensures { λ r. ⌜ r ≡ withInForce refusal (schemaOf (now (schema .entry))) (now (p .entry)) a b (λ ps. checkingInForce (schemaOf (now (schema .entry))) ps (now (s .entry))) ⌝ }
 {
-    nodes::fill_table(schema, table);
-    match policy_reader::read_policies(schema, table, nodes, p, index) {
-        PoliciesRead::Refused { number, offset } => Answer {
-            number,
-            file: 2,
-            offset,
-            value: 0,
-        },
-        PoliciesRead::Policies { count } => match policies::check_pass(a, b) {
-            Step::Bad { number, offset } => Answer {
-                number,
-                file: 3,
-                offset,
-                value: 0,
-            },
-            Step::Next { at: _ } => check_instance(schema, table, p, index, count, a, b, s),
-        },
+    let mut list = [0usize; MOST_POLICIES];
+    match inputs::read_in_force(schema, p, a, b, table, index, &mut list) {
+        Inputs::Refused { answer } => answer,
+        Inputs::Read { count } => in_force(schema, table, p, index, &list, count, s),
     }
 }
 
-// The answer after the schema; few nodes have a short table and a short index.
-fn check_policies(schema: &[u8], p: &[u8], a: u16, b: u16, s: &[u8]) -> Answer
+// Policies and pass, once a schema of so many nodes is accepted; few nodes have a short table and a short index.
+fn with_schema(schema: &[u8], count: usize, p: &[u8], a: u16, b: u16, s: &[u8]) -> Answer
     requires { ⌜ Accepted (now schema) ⌝ }
-    ensures { λ r. ⌜ r ≡ checkingUnder (schemaOf (now (schema .entry))) (now (p .entry)) a b (now (s .entry)) ⌝ }
+    requires { ⌜ AtMost mostNodes (length (schemaOf (now schema))) count ⌝ }
+    ensures { λ r. ⌜ r ≡ withInForce refusal (schemaOf (now (schema .entry))) (now (p .entry)) a b (λ ps. checkingInForce (schemaOf (now (schema .entry))) ps (now (s .entry))) ⌝ }
 {
-    let nodes = nodes::count_of(schema);
-    if nodes <= 16 {
-        let mut table = [0usize; 80];
-        let mut index = [0usize; 272];
-        return check_in(schema, nodes, p, a, b, s, &mut table, &mut index);
+    if count <= FEW_NODES {
+        let mut table = [0usize; FEW_TABLE_SLOTS];
+        let mut index = [0usize; FEW_INDEX_SLOTS];
+        return with_tables(schema, p, a, b, s, &mut table, &mut index);
     }
-    let mut table = [0usize; 320];
-    let mut index = [0usize; 1040];
-    check_in(schema, nodes, p, a, b, s, &mut table, &mut index)
+    let mut table = [0usize; TABLE_SLOTS];
+    let mut index = [0usize; INDEX_SLOTS];
+    with_tables(schema, p, a, b, s, &mut table, &mut index)
 }
 
 // The answer for schema, policies, a pass from day a to day b and an instance.
 pub fn check(schema: &[u8], policies: &[u8], a: u16, b: u16, instance: &[u8]) -> Answer
     ensures { λ r. ⌜ r ≡ checking (now (schema .entry)) (now (policies .entry)) a b (now (instance .entry)) ⌝ }
 {
-    match schema::read_schema(schema) {
-        Step::Bad { number, offset } => Answer {
-            number,
-            file: 1,
-            offset,
-            value: 0,
-        },
-        Step::Next { at: _ } => check_policies(schema, policies, a, b, instance),
+    match inputs::read_schema(schema) {
+        Inputs::Refused { answer } => answer,
+        Inputs::Read { count } => with_schema(schema, count, policies, a, b, instance),
     }
 }

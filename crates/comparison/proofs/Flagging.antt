@@ -14,7 +14,7 @@ use Rattle.schema.specs.Schema.{Node, schemaOf}
 use Rattle.schema.specs.Table.{Tabled, Accepted, NodeIn, AtMost}
 use Rattle.schema.proofs.Sound.{Sound}
 use Rattle.schema.proofs.Accepted.{sound}
-use Rattle.policies.specs.Policies.{Policy, policiesOf}
+use Rattle.policies.specs.Policies.{Policy}
 use Rattle.policies.specs.Pass.{selected}
 use Rattle.instances.specs.Instance.{Entry}
 use Rattle.lookup.specs.Lookup.{instanceOf, Readable, choicesOf}

@@ -2,20 +2,30 @@
 ghost use mathlib.Core.Path.{_≡_};
 ghost use mathlib.Core.Bool.{cond};
 ghost use lib.ListN.{length, getD};
-ghost use Rattle.schema.specs.Schema.{schemaOf};
-ghost use Rattle.schema.specs.Table.{Tabled, Accepted, NodeIn, AtMost, Room};
-ghost use Rattle.policies.specs.Policies.{policiesOf, rankOf};
-ghost use Rattle.policies.specs.Pass.{forced, selected};
-ghost use Rattle.policies.specs.Index.{PolicyIn, Indexed, IndexRoom, policyOf};
+ghost use Rattle.fields.specs.Answers.{refusal};
+ghost use Rattle.schema.specs.Schema.{mostNodes, schemaOf};
+ghost use Rattle.schema.specs.Table.{Tabled, Accepted, NodeIn, AtMost};
+ghost use Rattle.policies.specs.Policies.{rankOf};
+ghost use Rattle.policies.specs.Pass.{selected};
+ghost use Rattle.policies.specs.Index.{PolicyIn, policyOf};
 ghost use Rattle.lookup.specs.Lookup.{instanceOf, Readable};
 ghost use Rattle.model.specs.Order.{better, goodChoice, goodAt, asGood};
 ghost use Rattle.model.specs.Comparing.{verdict, compared};
 ghost use Rattle.order.specs.Order.{inSet};
-ghost use Rattle.calls.specs.Calls.{comparingInForce, comparingUnder, comparing};
+ghost use Rattle.calls.specs.Inputs.{withInForce};
+ghost use Rattle.inputs.specs.Inputs.{RoomFor};
+ghost use Rattle.calls.specs.Calls.{comparingInForce, comparing};
 ghost use Rattle.comparison.specs.Comparison.{Ranking};
 use fields::Answer;
 use fields::Step;
-use policy_reader::PoliciesRead;
+use inputs::Inputs;
+use nodes::FEW_NODES;
+use nodes::FEW_TABLE_SLOTS;
+use nodes::TABLE_SLOTS;
+use policies::FEW_INDEX_SLOTS;
+use policies::INDEX_SLOTS;
+use policies::MOST_POLICIES;
+use schema::MOST_NODES;
 
 // Policy j's rank in column k of node n, 0 where there is no such column.
 fn rank_at(
@@ -43,7 +53,7 @@ fn is_better(
     table: &[usize],
     p: &[u8],
     index: &[usize],
-    list: &[usize; 16],
+    list: &[usize; MOST_POLICIES],
     rows: usize,
     n: usize,
     x: usize,
@@ -71,11 +81,11 @@ fn is_better(
 }
 
 // Whether node s is flagged; a number above all nodes is not.
-fn is_flagged(flags: &[u8; 64], s: usize) -> bool
-    requires { ⌜ length (now flags) ≡ 64 ⌝ }
+fn is_flagged(flags: &[u8; MOST_NODES], s: usize) -> bool
+    requires { ⌜ length (now flags) ≡ mostNodes ⌝ }
     ensures { λ r. ⌜ r ≡ inSet (now (flags .entry)) s ⌝ }
 {
-    if s < 64 {
+    if s < MOST_NODES {
         return flags[s] == 1;
     }
     false
@@ -87,16 +97,16 @@ fn is_good_choice(
     table: &[usize],
     p: &[u8],
     index: &[usize],
-    list: &[usize; 16],
+    list: &[usize; MOST_POLICIES],
     rows: usize,
     n: usize,
     x: usize,
     y: usize,
-    flags: &[u8; 64],
+    flags: &[u8; MOST_NODES],
 ) -> bool
     requires { ⌜ NodeIn (now schema) (now table) n ⌝ }
     requires { ⌜ Ranking (now schema) (now p) (now index) (now list) rows ⌝ }
-    requires { ⌜ length (now flags) ≡ 64 ⌝ }
+    requires { ⌜ length (now flags) ≡ mostNodes ⌝ }
     ensures { λ r. ⌜ r ≡ goodChoice (better (schemaOf (now (schema .entry))) (selected (now (schema .entry)) (now (p .entry)) (now (list .entry)) rows)) (inSet (now (flags .entry))) n x y ⌝ }
 {
     if x == y {
@@ -117,16 +127,16 @@ fn is_good(
     table: &[usize],
     p: &[u8],
     index: &[usize],
-    list: &[usize; 16],
+    list: &[usize; MOST_POLICIES],
     rows: usize,
     n: usize,
-    first: &[u8; 64],
-    second: &[u8; 64],
-    flags: &[u8; 64],
+    first: &[u8; MOST_NODES],
+    second: &[u8; MOST_NODES],
+    flags: &[u8; MOST_NODES],
 ) -> bool
     requires { ⌜ NodeIn (now schema) (now table) n ⌝ }
     requires { ⌜ Ranking (now schema) (now p) (now index) (now list) rows ⌝ }
-    requires { ⌜ length (now flags) ≡ 64 ⌝ }
+    requires { ⌜ length (now flags) ≡ mostNodes ⌝ }
     ensures { λ r. ⌜ r ≡ goodAt (schemaOf (now (schema .entry))) (better (schemaOf (now (schema .entry))) (selected (now (schema .entry)) (now (p .entry)) (now (list .entry)) rows)) (inSet (now (flags .entry))) n (getD (now (first .entry)) n 0) (getD (now (second .entry)) n 0) ⌝ }
 {
     if instances::chooses(schema, table, n) {
@@ -152,7 +162,7 @@ fn as_good(
     table: &[usize],
     p: &[u8],
     index: &[usize],
-    list: &[usize; 16],
+    list: &[usize; MOST_POLICIES],
     rows: usize,
     s: &[u8],
     t: &[u8],
@@ -166,7 +176,7 @@ fn as_good(
 {
     let x = lookup::choices(schema, table, s);
     let y = lookup::choices(schema, table, t);
-    let mut flags = [0u8; 64];
+    let mut flags = [0u8; MOST_NODES];
     let mut n = nodes::count_of(schema);
     while 0 < n {
         n -= 1;
@@ -192,76 +202,58 @@ fn verdict_of(first: bool, second: bool) -> usize
 }
 
 // The verdict on two accepted instances.
-fn compare_accepted(
+fn verdict_on(
     schema: &[u8],
     table: &[usize],
     p: &[u8],
     index: &[usize],
-    count: usize,
-    a: u16,
-    b: u16,
+    list: &[usize; MOST_POLICIES],
+    rows: usize,
     s: &[u8],
     t: &[u8],
 ) -> usize
     requires { ⌜ Accepted (now schema) ⌝ }
     requires { ⌜ Tabled (now schema) (now table) ⌝ }
-    requires { ⌜ Indexed (now schema) (now p) (now index) count ⌝ }
+    requires { ⌜ Ranking (now schema) (now p) (now index) (now list) rows ⌝ }
     requires { ⌜ Readable (schemaOf (now schema)) (now s) ⌝ }
     requires { ⌜ Readable (schemaOf (now schema)) (now t) ⌝ }
-    ensures { λ r. ⌜ r ≡ compared (schemaOf (now (schema .entry))) (forced a b (policiesOf (schemaOf (now (schema .entry))) (now (p .entry)))) (instanceOf (schemaOf (now (schema .entry))) (now (s .entry))) (instanceOf (schemaOf (now (schema .entry))) (now (t .entry))) ⌝ }
+    ensures { λ r. ⌜ r ≡ compared (schemaOf (now (schema .entry))) (selected (now (schema .entry)) (now (p .entry)) (now (list .entry)) rows) (instanceOf (schemaOf (now (schema .entry))) (now (s .entry))) (instanceOf (schemaOf (now (schema .entry))) (now (t .entry))) ⌝ }
 {
-    let mut list = [0usize; 16];
-    let rows = policies::list_in_force(schema, p, index, count, a, b, &mut list);
-    let first = as_good(schema, table, p, index, &list, rows, s, t);
-    let second = as_good(schema, table, p, index, &list, rows, t, s);
+    let first = as_good(schema, table, p, index, list, rows, s, t);
+    let second = as_good(schema, table, p, index, list, rows, t, s);
     verdict_of(first, second)
 }
 
-// The instances, files 4 and 5, once schema, policies and pass are accepted.
-fn compare_instances(
+// The instances, files 4 and 5, once schema, policies and pass are accepted: the listed policies are those in force.
+fn in_force(
     schema: &[u8],
     table: &[usize],
     p: &[u8],
     index: &[usize],
-    count: usize,
-    a: u16,
-    b: u16,
+    list: &[usize; MOST_POLICIES],
+    rows: usize,
     s: &[u8],
     t: &[u8],
 ) -> Answer
     requires { ⌜ Accepted (now schema) ⌝ }
     requires { ⌜ Tabled (now schema) (now table) ⌝ }
-    requires { ⌜ Indexed (now schema) (now p) (now index) count ⌝ }
-    ensures { λ r. ⌜ r ≡ comparingInForce (schemaOf (now (schema .entry))) (forced a b (policiesOf (schemaOf (now (schema .entry))) (now (p .entry)))) (now (s .entry)) (now (t .entry)) ⌝ }
+    requires { ⌜ Ranking (now schema) (now p) (now index) (now list) rows ⌝ }
+    ensures { λ r. ⌜ r ≡ comparingInForce (schemaOf (now (schema .entry))) (selected (now (schema .entry)) (now (p .entry)) (now (list .entry)) rows) (now (s .entry)) (now (t .entry)) ⌝ }
 {
     match instance_reader::read_instance(schema, table, s) {
-        Step::Bad { number, offset } => Answer {
-            number,
-            file: 4,
-            offset,
-            value: 0,
-        },
+        Step::Bad { number, offset } => fields::refusal(number, 4, offset),
         Step::Next { at: _ } => match instance_reader::read_instance(schema, table, t) {
-            Step::Bad { number, offset } => Answer {
-                number,
-                file: 5,
-                offset,
-                value: 0,
-            },
-            Step::Next { at: _ } => Answer {
-                number: 0,
-                file: 0,
-                offset: 0,
-                value: compare_accepted(schema, table, p, index, count, a, b, s, t),
-            },
+            Step::Bad { number, offset } => fields::refusal(number, 5, offset),
+            Step::Next { at: _ } => {
+                fields::success(verdict_on(schema, table, p, index, list, rows, s, t))
+            }
         },
     }
 }
 
-// Policies and pass, files 2 and 3, once the schema is accepted, with room for its table and for the index.
-fn compare_in(
+// Policies and pass, once the schema is accepted, with room for its table and for the index.
+fn with_tables(
     schema: &[u8],
-    nodes: usize,
     p: &[u8],
     a: u16,
     b: u16,
@@ -270,48 +262,30 @@ fn compare_in(
     table: &mut [usize],
     index: &mut [usize],
 ) -> Answer
-    requires { ⌜ Accepted (now schema) ⌝ }
-    requires { ⌜ AtMost 64 (length (schemaOf (now schema))) nodes ⌝ }
-    requires { ⌜ Room (now schema) (now table) ⌝ }
-    requires { ⌜ IndexRoom (now schema) (now index) ⌝ }
-    ensures { λ r. ⌜ r ≡ comparingUnder (schemaOf (now (schema .entry))) (now (p .entry)) a b (now (s .entry)) (now (t .entry)) ⌝ }
+    requires { ⌜ RoomFor (now schema) (now table) (now index) ⌝ }
+    ensures { λ r. ⌜ r ≡ withInForce refusal (schemaOf (now (schema .entry))) (now (p .entry)) a b (λ ps. comparingInForce (schemaOf (now (schema .entry))) ps (now (s .entry)) (now (t .entry))) ⌝ }
 {
-    nodes::fill_table(schema, table);
-    match policy_reader::read_policies(schema, table, nodes, p, index) {
-        PoliciesRead::Refused { number, offset } => Answer {
-            number,
-            file: 2,
-            offset,
-            value: 0,
-        },
-        PoliciesRead::Policies { count } => match policies::check_pass(a, b) {
-            Step::Bad { number, offset } => Answer {
-                number,
-                file: 3,
-                offset,
-                value: 0,
-            },
-            Step::Next { at: _ } => {
-                compare_instances(schema, table, p, index, count, a, b, s, t)
-            }
-        },
+    let mut list = [0usize; MOST_POLICIES];
+    match inputs::read_in_force(schema, p, a, b, table, index, &mut list) {
+        Inputs::Refused { answer } => answer,
+        Inputs::Read { count } => in_force(schema, table, p, index, &list, count, s, t),
     }
 }
 
-// Few nodes have a short table and a short index.
-fn compare_policies(schema: &[u8], p: &[u8], a: u16, b: u16, s: &[u8], t: &[u8]) -> Answer
+// Policies and pass, once a schema of so many nodes is accepted; few nodes have a short table and a short index.
+fn with_schema(schema: &[u8], count: usize, p: &[u8], a: u16, b: u16, s: &[u8], t: &[u8]) -> Answer
     requires { ⌜ Accepted (now schema) ⌝ }
-    ensures { λ r. ⌜ r ≡ comparingUnder (schemaOf (now (schema .entry))) (now (p .entry)) a b (now (s .entry)) (now (t .entry)) ⌝ }
+    requires { ⌜ AtMost mostNodes (length (schemaOf (now schema))) count ⌝ }
+    ensures { λ r. ⌜ r ≡ withInForce refusal (schemaOf (now (schema .entry))) (now (p .entry)) a b (λ ps. comparingInForce (schemaOf (now (schema .entry))) ps (now (s .entry)) (now (t .entry))) ⌝ }
 {
-    let nodes = nodes::count_of(schema);
-    if nodes <= 16 {
-        let mut table = [0usize; 80];
-        let mut index = [0usize; 272];
-        return compare_in(schema, nodes, p, a, b, s, t, &mut table, &mut index);
+    if count <= FEW_NODES {
+        let mut table = [0usize; FEW_TABLE_SLOTS];
+        let mut index = [0usize; FEW_INDEX_SLOTS];
+        return with_tables(schema, p, a, b, s, t, &mut table, &mut index);
     }
-    let mut table = [0usize; 320];
-    let mut index = [0usize; 1040];
-    compare_in(schema, nodes, p, a, b, s, t, &mut table, &mut index)
+    let mut table = [0usize; TABLE_SLOTS];
+    let mut index = [0usize; INDEX_SLOTS];
+    with_tables(schema, p, a, b, s, t, &mut table, &mut index)
 }
 
 // The comparison: schema, policies, pass, first and second instance, then the verdict 0 alike, 1 first better,
@@ -326,13 +300,8 @@ pub fn compare(
 ) -> Answer
     ensures { λ r. ⌜ r ≡ comparing (now (schema .entry)) (now (policies .entry)) a b (now (first .entry)) (now (second .entry)) ⌝ }
 {
-    match schema::read_schema(schema) {
-        Step::Bad { number, offset } => Answer {
-            number,
-            file: 1,
-            offset,
-            value: 0,
-        },
-        Step::Next { at: _ } => compare_policies(schema, policies, a, b, first, second),
+    match inputs::read_schema(schema) {
+        Inputs::Refused { answer } => answer,
+        Inputs::Read { count } => with_schema(schema, count, policies, a, b, first, second),
     }
 }

@@ -39,8 +39,8 @@ pub record Upto {A : Type 0} (f : Condition → A) (cs : List Condition) (k : �
   pub beyond : (i : ℕ) → k ≤ i → getD l i (f (mask 0)) ≡ f (mask 0)
 
 module _ {A : Type 0} (f : Condition → A) (cs : List Condition) where
-  pub upto-none : Upto f cs 0 (replicate 4 (f (mask 0)))
-  upto-none = record { long = length-replicate {A = A} 4 (f (mask 0)); below = λ i h. absurd (omega arith); beyond = λ i h. go i (decLt i 4) }
+  pub upto-init : Upto f cs 0 (replicate 4 (f (mask 0)))
+  upto-init = record { long = length-replicate {A = A} 4 (f (mask 0)); below = λ i h. absurd (omega arith); beyond = λ i h. go i (decLt i 4) }
     where
       go : (i : ℕ) → Dec (i < 4) → getD (replicate 4 (f (mask 0))) i (f (mask 0)) ≡ f (mask 0)
       go i (yes h) = getD-replicate 4 i (f (mask 0)) (f (mask 0)) h
@@ -68,8 +68,8 @@ module _ {A : Type 0} (f : Condition → A) (cs : List Condition) where
         go i j (yes z) = rw z (u .beyond k (omega arith) ∙ e)
         go i j (no z) = u .below i (omega arith)
 
-    pub upto-done : length cs ≤ k → l ≡ four (λ i. f (getD cs i (mask 0)))
-    upto-done h =
+    pub upto-exit : length cs ≤ k → l ≡ four (λ i. f (getD cs i (mask 0)))
+    upto-exit h =
         ext-getD (f (mask 0)) l (four (λ i. f (getD cs i (mask 0)))) (u .long ∙ four-long (λ i. f (getD cs i (mask 0)))) λ i j.
         go i (decLt i k) ∙ sym (four-at (λ i. f (getD cs i (mask 0))) i (f (mask 0)) (omega (arith, u .long)))
       where

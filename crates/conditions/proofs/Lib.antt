@@ -1,7 +1,8 @@
 pub mod Held
-pub mod Said
-pub mod Speaking
-pub mod Narrowing
+pub mod Rules
+pub mod Same
 pub mod Finding
+pub mod Above
+pub mod Narrowing
 pub mod Combining
 pub mod Numbers

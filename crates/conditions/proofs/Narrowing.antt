@@ -1,13 +1,12 @@
--- The loop over the policies in force that speak of the node, for one variable: those from row r on are left.
--- Rests on what each says there, in Said, and on Speaking for the others, which leave all.
+-- The loop over the offsets, for one variable: the conditions from row r on are left.
+-- Rests on the definition of what they leave.
 use mathlib.Core.Path.{_≡_, refl, ap, ap₂, sym, _∙_}
-use mathlib.Core.Bool.{true, false}
 use mathlib.Core.List.{List}
 use Prim.Native.Nat.{ℕ, _+_, _≤_, _<_, _^_}
 use native.Mathlib.Omega.{arith}
 use native.Mathlib.Numerals.{add-one}
-use lib.ListN.{length, getD, drop, drop-of-length-le}
-use lib.Seq.{drop-cons}
+use lib.ListN.{length, getD, take, drop, drop-of-length-le}
+use lib.Seq.{drop-cons, getD-take, length-take-le}
 use lib.Bits.{bitAnd}
 use lib.IntN.{ℤ}
 use lib.Signed.{mag}
@@ -17,34 +16,21 @@ use mir.ValLaws.{toZ-ofZ}
 use Rattle.fields.specs.Reading.{be, signed}
 use Rattle.numbers.specs.Bits.{ones}
 use Rattle.numbers.specs.Signs.{maxZ, minZ}
-use Rattle.schema.specs.Schema.{schemaOf}
-use Rattle.policies.specs.Policies.{Condition, range, mask, Policy, noPolicy, policiesOf, policyAt}
-use Rattle.policies.specs.Pass.{selected}
-use Rattle.model.specs.Satisfaction.{conditionAt}
-use Rattle.model.specs.Reconciling.{both, restrict, restrictAll}
-use Rattle.conditions.specs.Places.{speaking, Found, ConditionIn}
-use Rattle.conditions.proofs.Said.{range-said, range-inside, mask-said, mask-inside}
-use Rattle.conditions.proofs.Speaking.{conditions-speaking}
+use Rattle.policies.specs.Policies.{Condition, range, mask}
+use Rattle.model.specs.Reconciling.{both}
+use Rattle.conditions.specs.Rules.{BytesAt, rangeAt, maskAt, narrowedBy}
 
 -- a bound is what its bits say
 pub kept : (z : ℤ) → mag z < 2 ^ 31 → toZ w32 (ofZ w32 z) ≡ z
 kept z f = toZ-ofZ w32 z (record { sfits = f })
 
--- where a policy speaks of the node, there is room for the condition
-module _ (schema p list : List ℕ) (listed n k rows : ℕ) (places : List ℕ) (r : ℕ) {offset : ℕ} (f : Found schema p list listed n rows places) (h : r < rows) where
-  module _ (i : ConditionIn (schemaOf schema) n k offset true) where
-    pub range-room : getD places r 0 + offset + 8 ≤ length p
-    range-room = range-inside (schemaOf schema) p (policyAt (speaking n (selected schema p list listed)) r) n (getD places r 0) k offset (f .each r h) i
+-- there is room for the condition
+module _ (p : List ℕ) (rows : ℕ) (offsets : List ℕ) (skip r k : ℕ) (b : BytesAt p rows offsets (skip + k)) (h : r < rows) where
+  pub condition-room : getD offsets r 0 + skip + k ≤ length p
+  condition-room = omega (arith, b .each r h)
 
-    pub range-fits : length p < 2 ^ 64 → Fits w64 (getD places r 0 + offset)
-    range-fits m = record { fits = omega (arith, range-room) }
-
-  module _ (i : ConditionIn (schemaOf schema) n k offset false) where
-    pub mask-room : getD places r 0 + offset + 4 ≤ length p
-    mask-room = mask-inside (schemaOf schema) p (policyAt (speaking n (selected schema p list listed)) r) n (getD places r 0) k offset (f .each r h) i
-
-    pub mask-fits : length p < 2 ^ 64 → Fits w64 (getD places r 0 + offset)
-    mask-fits m = record { fits = omega (arith, mask-room) }
+  pub condition-fits : length p < 2 ^ 64 → Fits w64 (getD offsets r 0 + skip)
+  condition-fits m = record { fits = omega (arith, condition-room) }
 
 -- a range as the code narrows it
 pub narrowed : (p : List ℕ) (at : ℕ) (a b : ℤ) {x y u v : ℤ} → x ≡ signed (be 4 p at) → mag x < 2 ^ 31 → y ≡ signed (be 4 p (at + 4)) → mag y < 2 ^ 31 → mag a < 2 ^ 31 → mag b < 2 ^ 31
@@ -56,60 +42,54 @@ narrowed p at a b {x} {y} {u} {v} ex fx ey fy fa fb eu fu ev fv =
     (kept u fu ∙ eu ∙ ap₂ maxZ (kept a fa) (kept x fx ∙ ex))
     (kept v fv ∙ ev ∙ ap₂ minZ (kept b fb) (kept y fy ∙ ey))
 
--- what the policies from row r on leave of c is what all leave of start
-pub record Narrowing (qs : List Policy) (n k : ℕ) (start : Condition) (r : ℕ) (c : Condition) : Type 0 where
-  pub left : restrictAll (drop r qs) n k c ≡ restrictAll qs n k start
+-- what the conditions from row r on leave of c is what all leave of start
+pub record Narrowing (f : ℕ → Condition) (rows : ℕ) (offsets : List ℕ) (start : Condition) (r : ℕ) (c : Condition) : Type 0 where
+  pub left : narrowedBy f (drop r (take rows offsets)) c ≡ narrowedBy f (take rows offsets) start
 
-pub narrowing-none : (qs : List Policy) (n k : ℕ) (c : Condition) → Narrowing qs n k c 0 c
-narrowing-none qs n k c = record { left = refl }
+pub narrowing-init : (f : ℕ → Condition) (rows : ℕ) (offsets : List ℕ) (c : Condition) → Narrowing f rows offsets c 0 c
+narrowing-init f rows offsets c = record { left = refl }
 
-pub narrowing-mask-none : (qs : List Policy) (n k size : ℕ) {m : ℕ} → m ≡ ones size → Narrowing qs n k (mask (ones size)) 0 (mask m)
-narrowing-mask-none qs n k size e = record { left = ap (λ (x : ℕ). restrictAll qs n k (mask x)) e }
+pub mask-init : (f : ℕ → Condition) (rows : ℕ) (offsets : List ℕ) (size : ℕ) {m : ℕ} → m ≡ ones size → Narrowing f rows offsets (mask (ones size)) 0 (mask m)
+mask-init f rows offsets size e = record { left = ap (λ (x : ℕ). narrowedBy f (take rows offsets) (mask x)) e }
 
-module _ (schema p list : List ℕ) (listed n k rows : ℕ) (places : List ℕ) (start : Condition) (r : ℕ) (f : Found schema p list listed n rows places) where
-  abbrev qs : List Policy
-  qs = speaking n (selected schema p list listed)
-
-  turn : {c d : Condition} → Narrowing qs n k start r c → r < rows → d ≡ restrict c (conditionAt (policyAt qs r) n k) → Narrowing qs n k start (r + 1) d
-  unfolding restrictAll
-  turn {c} {d} w h e =
+module _ (f : ℕ → Condition) (rows : ℕ) (offsets : List ℕ) (start : Condition) (r : ℕ) {c : Condition} (w : Narrowing f rows offsets start r c) (l : rows ≤ length offsets) where
+  pub narrowing-step : {d : Condition} → r < rows → d ≡ both c (f (getD offsets r 0)) → Narrowing f rows offsets start (r + 1) d
+  unfolding narrowedBy
+  narrowing-step {d} h e =
+      let os = take rows offsets in
       record {
         left =
-            ap (restrictAll (drop (r + 1) qs) n k) e
-            ∙ ap (λ (i : ℕ). restrictAll (drop i qs) n k (restrict c (conditionAt (policyAt qs r) n k))) (add-one r)
-            ∙ sym (ap (λ (l : List Policy). restrictAll l n k c) (drop-cons qs r noPolicy (omega (arith, f .rows-is))))
+            ap (narrowedBy f (drop (r + 1) os)) (e ∙ ap (λ (o : ℕ). both c (f o)) (sym (getD-take rows offsets r 0 h)))
+            ∙ ap (λ (i : ℕ). narrowedBy f (drop i os) (both c (f (getD os r 0)))) (add-one r)
+            ∙ sym (ap (λ (l : List ℕ). narrowedBy f l c) (drop-cons os r 0 (omega (arith, length-take-le rows offsets l))))
             ∙ w .left;
       }
 
-  pub narrowing-done : {c : Condition} → Narrowing qs n k start r c → rows ≤ r → c ≡ restrictAll (selected schema p list listed) n k start
-  unfolding restrictAll
-  narrowing-done {c} w h =
-      sym (ap (λ (l : List Policy). restrictAll l n k c) (drop-of-length-le qs {i = r} (omega (arith, f .rows-is))))
-      ∙ w .left
-      ∙ conditions-speaking n k (selected schema p list listed) start
+  pub narrowing-exit : rows ≤ r → c ≡ narrowedBy f (take rows offsets) start
+  unfolding narrowedBy
+  narrowing-exit h =
+      sym (ap (λ (l : List ℕ). narrowedBy f l c) (drop-of-length-le (take rows offsets) {i = r} (omega (arith, length-take-le rows offsets l)))) ∙ w .left
 
-  -- a number's bounds
-  module _ {offset : ℕ} (i : ConditionIn (schemaOf schema) n k offset true) (h : r < rows) where
-    pub narrowing-range : {c d : Condition} → Narrowing qs n k start r c
-        → d ≡ both c (range (signed (be 4 p (getD places r 0 + offset))) (signed (be 4 p (getD places r 0 + offset + 4)))) → Narrowing qs n k start (r + 1) d
-    unfolding restrict
-    narrowing-range {c} w e =
-        turn w h (e ∙ ap (restrict c) (sym (range-said (schemaOf schema) p (policyAt qs r) n (getD places r 0) k offset (f .each r h) i)))
+-- a number's bounds
+pub range-step : (p : List ℕ) (skip rows : ℕ) (offsets : List ℕ) (start : Condition) (r : ℕ) {k : ℕ} {c d : Condition} → Narrowing (rangeAt p skip) rows offsets start r c → BytesAt p rows offsets k → r < rows
+    → d ≡ both c (range (signed (be 4 p (getD offsets r 0 + skip))) (signed (be 4 p (getD offsets r 0 + skip + 4)))) → Narrowing (rangeAt p skip) rows offsets start (r + 1) d
+unfolding rangeAt
+range-step p skip rows offsets start r w b h e = narrowing-step (rangeAt p skip) rows offsets start r w (b .long) h e
 
-  -- a mask
-  module _ {offset : ℕ} (i : ConditionIn (schemaOf schema) n k offset false) (h : r < rows) where
-    pub narrowing-mask : {m x : ℕ} → Narrowing qs n k start r (mask m) → x ≡ be 4 p (getD places r 0 + offset)
-        → Narrowing qs n k start (r + 1) (mask (bitAnd m x))
-    unfolding restrict both
-    narrowing-mask {m} w d =
-        turn w h
-        (ap (λ (y : ℕ). mask (bitAnd m y)) d
-        ∙ ap (restrict (mask m)) (sym (mask-said (schemaOf schema) p (policyAt qs r) n (getD places r 0) k offset (f .each r h) i)))
+-- those that the code begins with
+pub range-exit : (p : List ℕ) (skip rows : ℕ) (offsets : List ℕ) (r : ℕ) {k : ℕ} {least most : ℤ} {c : Condition} → BytesAt p rows offsets k → SFits w32 least → SFits w32 most
+    → Narrowing (rangeAt p skip) rows offsets (range (toZ w32 (ofZ w32 least)) (toZ w32 (ofZ w32 most))) r c → rows ≤ r
+    → c ≡ narrowedBy (rangeAt p skip) (take rows offsets) (range least most)
+range-exit p skip rows offsets r {least = least} {most} b fl fm w h =
+    narrowing-exit (rangeAt p skip) rows offsets (range (toZ w32 (ofZ w32 least)) (toZ w32 (ofZ w32 most))) r w (b .long) h
+    ∙ ap (narrowedBy (rangeAt p skip) (take rows offsets)) (ap₂ range (toZ-ofZ w32 least fl) (toZ-ofZ w32 most fm))
 
--- the range that the code begins with
-pub narrowing-bounds : (schema p list : List ℕ) (listed n k rows : ℕ) (places : List ℕ) (r : ℕ) {least most : ℤ} {c : Condition} → Found schema p list listed n rows places → SFits w32 least → SFits w32 most
-    → Narrowing (speaking n (selected schema p list listed)) n k (range (toZ w32 (ofZ w32 least)) (toZ w32 (ofZ w32 most))) r c → rows ≤ r
-    → c ≡ restrictAll (selected schema p list listed) n k (range least most)
-narrowing-bounds schema p list listed n k rows places r {least} {most} f fl fm w h =
-    narrowing-done schema p list listed n k rows places (range (toZ w32 (ofZ w32 least)) (toZ w32 (ofZ w32 most))) r f w h
-    ∙ ap (restrictAll (selected schema p list listed) n k) (ap₂ range (toZ-ofZ w32 least fl) (toZ-ofZ w32 most fm))
+-- a mask
+pub mask-step : (p : List ℕ) (skip rows : ℕ) (offsets : List ℕ) (start : Condition) (r : ℕ) {k m x : ℕ} → Narrowing (maskAt p skip) rows offsets start r (mask m) → BytesAt p rows offsets k → r < rows
+    → x ≡ be 4 p (getD offsets r 0 + skip) → Narrowing (maskAt p skip) rows offsets start (r + 1) (mask (bitAnd m x))
+unfolding maskAt both
+mask-step p skip rows offsets start r {m = m} w b h e = narrowing-step (maskAt p skip) rows offsets start r w (b .long) h (ap (λ (y : ℕ). mask (bitAnd m y)) e)
+
+pub mask-exit : (p : List ℕ) (skip rows : ℕ) (offsets : List ℕ) (start : Condition) (r : ℕ) {k : ℕ} {c : Condition} → Narrowing (maskAt p skip) rows offsets start r c → BytesAt p rows offsets k → rows ≤ r
+    → c ≡ narrowedBy (maskAt p skip) (take rows offsets) start
+mask-exit p skip rows offsets start r w b h = narrowing-exit (maskAt p skip) rows offsets start r w (b .long) h

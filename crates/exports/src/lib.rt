@@ -1,7 +1,6 @@
 // The calls for C and Rust: a slice passes as a pointer and a length.
 ghost use mathlib.Core.Path.{_≡_};
-ghost use Rattle.copying.specs.Copying.{copying};
-ghost use Rattle.calls.specs.Calls.{reconciling, checking, comparing};
+ghost use Rattle.calls.specs.Calls.{reconciling, checking, comparing, copying};
 ghost use Rattle.exports.specs.Call.{Called};
 ghost use Rattle.exports.specs.Exported.{exported};
 use fields::Answer;

@@ -6,3 +6,4 @@ pub mod Back
 pub mod Signed
 pub mod At
 pub mod Refusals
+pub mod Judged

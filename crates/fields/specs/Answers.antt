@@ -30,7 +30,7 @@ success v = record { number = 0; file = 0; offset = 0; value = v }
 abbrev pub refusal : ℕ → ℕ → ℕ → Answer
 refusal n file o = record { number = n; file = file; offset = o; value = 0 }
 
--- a file's reading, then what follows it: 'calls check in that order'
-unfoldable pub judged : {A : Type 0} → ℕ → Got A → (A → Answer) → Answer
-judged file (got a p) k = k a
-judged file (bad n o) k = refusal n file o
+-- a file's reading, then what follows it: 'calls check in that order'; refuse is the call's refusal with a number, file and offset
+unfoldable pub judged : {A B : Type 0} → (ℕ → ℕ → ℕ → B) → ℕ → Got A → (A → B) → B
+judged refuse file (got a p) k = k a
+judged refuse file (bad n o) k = refuse n file o

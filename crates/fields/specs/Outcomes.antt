@@ -5,7 +5,6 @@ use mathlib.Core.Bool.{cond}
 use mathlib.Core.List.{List, _++_}
 use lib.Dec.{leb}
 use lib.ListN.{length, drop}
-use Rattle.fields.specs.Reading.{Got, got, bad}
 use Rattle.fields.specs.Answers.{success, refusal}
 use Rattle.fields.specs.declared.Answer.{Answer}
 
@@ -23,10 +22,9 @@ pub record Did (o : Outcome) (r : Answer) (after : List ℕ) : Type 0 where
 abbrev pub refused : ℕ → ℕ → ℕ → List ℕ → Outcome
 refused n file o out = record { answer = refusal n file o; buffer = out }
 
--- a file's reading, then what follows it
-unfoldable pub judgedIn : {A : Type 0} → List ℕ → ℕ → Got A → (A → Outcome) → Outcome
-judgedIn out file (got a p) k = k a
-judgedIn out file (bad n o) k = refused n file o out
+-- the same as a call's refusal of what it reads, this buffer being lent
+abbrev pub leaving : List ℕ → ℕ → ℕ → ℕ → Outcome
+leaving out n file o = refused n file o out
 
 -- a file put at the start of the buffer: 'a shorter buffer is refused' with 14, 'a longer one never';
 -- 'the bytes beyond the length stay'

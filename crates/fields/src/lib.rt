@@ -4,6 +4,7 @@ ghost use Prim.Native.Nat.{_+_, _*_, _≤_};
 ghost use lib.ListN.{length};
 ghost use Rattle.fields.specs.Reading.{be, signed};
 ghost use Rattle.fields.specs.Writing.{unsigned};
+ghost use Rattle.fields.specs.Answers.{success, refusal};
 
 // A field's value and the position after it, or the number of its breach and its offset.
 pub enum Field {
@@ -29,6 +30,30 @@ pub struct Answer {
     pub file: u8,
     pub offset: usize,
     pub value: usize,
+}
+
+// The answer of a call that succeeds.
+pub fn success(value: usize) -> Answer
+    ensures { λ r. ⌜ r ≡ success value ⌝ }
+{
+    Answer {
+        number: 0,
+        file: 0,
+        offset: 0,
+        value,
+    }
+}
+
+// The answer of a call that refuses.
+pub fn refusal(number: u8, file: u8, offset: usize) -> Answer
+    ensures { λ r. ⌜ r ≡ refusal number file offset ⌝ }
+{
+    Answer {
+        number,
+        file,
+        offset,
+        value: 0,
+    }
 }
 
 fn join2(a: u8, b: u8) -> u32

@@ -14,7 +14,7 @@ use Rattle.schema.specs.declared.Variable.{Variable}
 use Rattle.schema.specs.declared.Variable.the-variants.{Number, Listed}
 use Rattle.schema.proofs.Sound.{Sound}
 use Rattle.instances.specs.Instance.{Entry}
-use Rattle.instances.specs.File.{IH, IN, valueWidth, encodeValue, encodeValues, encodeEntry, encodeEntries, encode}
+use Rattle.instances.specs.File.{IH, IN, valueWidth, encodeValue, encodeValues, encodeEntry, encodeEntries, encode, mostBytes}
 use Rattle.instances.proofs.Valid.{few-variables}
 
 pub width-most : (v : Variable) → valueWidth v ≤ 4
@@ -61,7 +61,7 @@ module _ (g : List Node) (sound : Sound g) where
   entries-most [] = omega arith
   entries-most (e ∷ es) = omega (arith, length-append (encodeEntry g e) (encodeEntries g es), entry-most e, entries-most es)
 
-  pub encode-length : (i : List Entry) → length i ≤ 64 → length (encode g i) ≤ 1283
+  pub encode-length : (i : List Entry) → length i ≤ 64 → length (encode g i) ≤ mostBytes
   unfolding encode
   encode-length i h =
       let mb = spell 1 (length i) in

@@ -14,14 +14,14 @@ use Rattle.fields.proofs.Tests.{or-true, never}
 use Rattle.schema.specs.Schema.{Node, nodeAt}
 use Rattle.schema.proofs.Sound.{Sound}
 use Rattle.instances.specs.Instance.{Entry, elem, reaches, rightChoice, has}
-use Rattle.instances.specs.File.{reached, due, lowestDue, encode}
+use Rattle.instances.specs.File.{reached, due, lowestDue, encode, mostBytes}
 use Rattle.instances.specs.Plan.{plannedFrom, planned}
 use Rattle.instances.proofs.IsInstance.{inDomains, Reached, root, on, RightEntry, IsInstance}
 use Rattle.instances.proofs.Lengths.{encode-length}
 use Rattle.instances.proofs.Valid.{Follows, none-left, and-then, at-none, Reaches, mem-none, due-reached, reached-due, due-cases, due-lowest, reaches-in, follows-is}
 
 -- a plan makes at most one entry for each node
-from-few : (g : List Node) (plan : ℕ → Entry) (k n : ℕ) (es : List Entry) → length (plannedFrom g plan k n es) ≤ k
+pub from-few : (g : List Node) (plan : ℕ → Entry) (k n : ℕ) (es : List Entry) → length (plannedFrom g plan k n es) ≤ k
 unfolding plannedFrom
 from-few g plan zero n es = omega arith
 from-few g plan (suc k) n es = go (reached g es n) (from-few g plan k (n + 1) (plan n ∷ es)) (from-few g plan k (n + 1) es)
@@ -32,7 +32,7 @@ from-few g plan (suc k) n es = go (reached g es n) (from-few g plan k (n + 1) (p
     go false h l = omega arith
 
 -- and so its file is no longer than any
-pub planned-longest : (g : List Node) → Sound g → (plan : ℕ → Entry) → length (encode g (planned g plan)) ≤ 1283
+pub planned-longest : (g : List Node) → Sound g → (plan : ℕ → Entry) → length (encode g (planned g plan)) ≤ mostBytes
 unfolding planned
 planned-longest g sound plan = encode-length g sound (planned g plan) (let z = from-few g plan (length g) 0 [] in let y = sound .few in omega arith)
 

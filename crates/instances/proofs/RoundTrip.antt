@@ -18,7 +18,7 @@ use Rattle.schema.specs.declared.Variable.{Variable}
 use Rattle.schema.specs.declared.Variable.the-variants.{Number, Listed}
 use Rattle.schema.proofs.Sound.{Sound}
 use Rattle.instances.specs.Instance.{Entry, elem, chooses, rightChoice}
-use Rattle.instances.specs.File.{IH, IN, instance, encodeValue, encodeValues, encodeEntry, encodeEntries, encode}
+use Rattle.instances.specs.File.{IH, IN, instance, encodeValue, encodeValues, encodeEntry, encodeEntries, encode, mostBytes}
 use Rattle.instances.proofs.IsInstance.{Reached, root, on, Ascending, IsInstance}
 use Rattle.fields.proofs.At.{bytes-both, bytes-none, bytes-one, spell-bytes}
 use Rattle.instances.proofs.Valid.{successor-in, sound-variables, reaches-in, follows-is, is-follows}
@@ -125,5 +125,5 @@ module _ (g : List Node) (sound : Sound g) where
     encode-read = follows-read g (sound-variables g sound) i (is-follows g sound i is) small (let z = few-entries in omega arith)
 
     -- 'into 1,283 bytes, enough for any instance'
-    pub longest : length (encode g i) ≤ 1283
+    pub longest : length (encode g i) ≤ mostBytes
     longest = encode-length g sound i few-entries

@@ -40,9 +40,15 @@ unfoldable pub lowestDue : List Node → List Entry → ℕ → Bool
 lowestDue g es n = due g es n && noneBelow (due g es) n
 
 -- 'the node's values, i32 for a number, u8 for a listed one'
+abbrev pub numberWidth : ℕ
+numberWidth = 4
+
+abbrev pub listedWidth : ℕ
+listedWidth = 1
+
 unfoldable pub valueWidth : Variable → ℕ
-valueWidth (Number lo hi) = 4
-valueWidth (Listed size) = 1
+valueWidth (Number lo hi) = numberWidth
+valueWidth (Listed size) = listedWidth
 
 unfoldable pub valueOf : Variable → ℕ → ℤ
 valueOf (Number lo hi) u = signed u
@@ -112,3 +118,7 @@ encodeEntries g (e ∷ es) = encodeEntry g e ++ encodeEntries g es
 
 unfoldable pub encode : List Node → List Entry → List ℕ
 encode g i = IH ++ spell 1 (length i) ++ encodeEntries g i
+
+-- '1,283 bytes, enough for any instance'
+abbrev pub mostBytes : ℕ
+mostBytes = 1283

@@ -23,11 +23,18 @@ unfoldable pub valuesFrom : List Variable → List ℕ → ℕ → List ℤ
 valuesFrom [] bits k = []
 valuesFrom (v ∷ vs) bits k = valueOf v (getD bits k 0) ∷ valuesFrom vs bits (k + 1)
 
--- the plan that arrays hold: a choice for each node, and the bits of its values, four places for each node
+-- the slot of a node's first value, and of its k-th
+abbrev pub valuesSlot : ℕ → ℕ
+valuesSlot n = 4 * n
+
+abbrev pub valueSlot : ℕ → ℕ → ℕ
+valueSlot n k = valuesSlot n + k
+
+-- the plan that arrays hold: a choice for each node, and the bits of its values, four slots for each node
 unfoldable pub planOf : List Node → List ℕ → List ℕ → ℕ → Entry
 planOf g choices bits n =
-    record { node = n; choice = getD choices n 0; values = valuesFrom (nodeAt g n .variables) bits (4 * n) }
+    record { node = n; choice = getD choices n 0; values = valuesFrom (nodeAt g n .variables) bits (valuesSlot n) }
 
 -- room for the bits of four values of each node, whatever stands there
 pub record BitsRoom (schema bits : List ℕ) : Type 0 where
-  pub long : 4 * length (schemaOf schema) ≤ length bits
+  pub long : valuesSlot (length (schemaOf schema)) ≤ length bits

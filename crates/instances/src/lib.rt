@@ -4,6 +4,22 @@ ghost use Rattle.numbers.specs.Bits.{withAll};
 ghost use Rattle.schema.specs.Schema.{schemaOf, nodeAt};
 ghost use Rattle.schema.specs.Table.{NodeIn};
 ghost use Rattle.instances.specs.Instance.{chooses, reaches};
+use schema::MOST_NODES;
+use schema::MOST_VARIABLES;
+
+// The bytes of a value: a number's, a listed variable's.
+pub const NUMBER_WIDTH: usize = 4;
+
+pub const LISTED_WIDTH: usize = 1;
+
+// The bytes of an entry before its values: mark, node and choice; those of the file before its entries: mark and count.
+pub const ENTRY_WIDTH: usize = 4;
+
+pub const HEAD_WIDTH: usize = 3;
+
+// The longest file: each node has an entry, with as many numbers as there may be.
+pub const MOST_BYTES: usize = HEAD_WIDTH
+    + MOST_NODES * (ENTRY_WIDTH + MOST_VARIABLES * NUMBER_WIDTH);
 
 // Whether a node is of kind 1 and has successors.
 pub fn chooses(schema: &[u8], table: &[usize], n: usize) -> bool

@@ -1,6 +1,6 @@
 -- `reconcile` is right: its answer is planned from the nodes that can be met, and every node that a rival reaches can be.
 -- Rests on a sound schema and lawful rules; a total order is asked for by `as-good` alone, through `total-best`.
-use mathlib.Core.Path.{_≡_, refl, sym, subst, ap, ap₂, _∙_}
+use mathlib.Core.Path.{_≡_, refl, sym, subst, ap, ap₂, _∙_, fun-ext}
 use mathlib.Core.Logic.{_⊎_, inl, inr}
 use mathlib.Core.List.{List, [], _∷_, List·Memᴰ}
 use mathlib.Core.Bool.{Bool, true, false, cond, _&&_}
@@ -22,7 +22,7 @@ use Rattle.instances.proofs.RoundTrip.{reached-below}
 use Rattle.instances.proofs.Planned.{Sure, planned-is, planned-mine, planned-good, planned-same}
 use Rattle.model.specs.Satisfaction.{every}
 use Rattle.model.specs.Order.{choiceAt}
-use Rattle.model.specs.Reconciling.{Rules, isSome, taken, canStep, can, plan, reconcile}
+use Rattle.model.specs.Reconciling.{Rules, isSome, best, taken, canStep, can, plan, reconcile}
 use Rattle.model.proofs.Lawful.{MeetsRules, Total, IsLeast, Lawful}
 use Rattle.model.proofs.Relations.{valuesAt, AtLeast, at-same, at-better, SameChoices, noLower, NoneLower, Best, Right}
 use Rattle.model.proofs.Lists.{elem-one, every-at, at-every, every-same}
@@ -30,6 +30,19 @@ use Rattle.model.proofs.Levels.{descend, within-step, by-table}
 use Rattle.model.proofs.Entries.{no-entry, has-reached, at-node, domains-at, spread, picks, picked}
 use Rattle.model.proofs.Successors.{Top, IsBest, no-best, a-best, best-is, total-best, best-same}
 use Rattle.model.proofs.Order.{at-rest}
+
+-- ---- a node's step looks at the rules of that node alone
+
+module _ (g : List Node) (r q : Rules) (n : ℕ) (a : (s : ℕ) → r .allowed n s ≡ q .allowed n s) (b : (x y : ℕ) → r .better n x y ≡ q .better n x y) (l : r .least n ≡ q .least n) (h : ℕ → Bool) where
+  pub taken-same : taken g r h n ≡ taken g q h n
+  unfolding taken
+  taken-same =
+      ap₂ (λ (allowed : ℕ → Bool) (better : ℕ → ℕ → Bool). best (λ (s : ℕ). allowed s && h s) better (nodeAt g n .successors)) (fun-ext a) (fun-ext (λ x. fun-ext (b x)))
+
+  pub step-same : canStep g r h n ≡ canStep g q h n
+  unfolding canStep
+  step-same =
+      ap₂ (λ (values : Option (List ℤ)) (successor : Option ℕ). isSome values && cond (chooses (nodeAt g n)) (isSome successor) (every h (nodeAt g n .successors))) l taken-same
 
 module _ (g : List Node) (A : Sound g) (r : Rules) where
   above : (n s : ℕ) → elem s (nodeAt g n .successors) ≡ true → n < s

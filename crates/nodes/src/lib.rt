@@ -2,9 +2,27 @@
 ghost use mathlib.Core.Path.{_≡_};
 ghost use Prim.Native.Nat.{_<_};
 ghost use lib.ListN.{length};
-ghost use Rattle.schema.specs.Schema.{schemaOf, nodeAt, variableAt, isNumber};
+ghost use Rattle.schema.specs.Schema.{mostNodes, schemaOf, nodeAt, variableAt, isNumber};
 ghost use Rattle.schema.specs.Table.{widthAt, Filling, Filled, Accepted, Tabled, Room, NodeIn, AtMost, SuccessorIs};
+use schema::MOST_NODES;
+use schema::MOST_VARIABLES;
 use schema::Variable;
+
+// The slots of a node in the table: its record's, then its variables'.
+pub const NODE_SLOTS: usize = 1 + MOST_VARIABLES;
+
+// A table for any schema.
+pub const TABLE_SLOTS: usize = NODE_SLOTS * MOST_NODES;
+
+// Few nodes have shorter tables, which are sooner cleared.
+pub const FEW_NODES: usize = 16;
+
+pub const FEW_TABLE_SLOTS: usize = NODE_SLOTS * FEW_NODES;
+
+// And so have the fewest.
+pub const FEWEST_NODES: usize = 4;
+
+pub const FEWEST_TABLE_SLOTS: usize = NODE_SLOTS * FEWEST_NODES;
 
 fn wide(x: u8) -> usize
     ensures { λ r. ⌜ r ≡ x ⌝ }
@@ -15,7 +33,7 @@ fn wide(x: u8) -> usize
 // The number of nodes.
 pub fn count_of(s: &[u8]) -> usize
     requires { ⌜ Accepted (now s) ⌝ }
-    ensures { λ r. ⌜ AtMost 64 (length (schemaOf (now (s .entry)))) r ⌝ }
+    ensures { λ r. ⌜ AtMost mostNodes (length (schemaOf (now (s .entry)))) r ⌝ }
 {
     wide(s[2])
 }
@@ -39,7 +57,7 @@ fn fill_variables(s: &[u8], n: usize, v: usize, from: usize, table: &mut [usize]
     let mut k: usize = 0;
     let mut at = from;
     while k < v {
-        table[5 * n + 1 + k] = at;
+        table[NODE_SLOTS * n + 1 + k] = at;
         at += variable_width(s, at);
         k += 1;
     }
@@ -56,7 +74,7 @@ pub fn fill_table(s: &[u8], table: &mut [usize])
     let mut n: usize = 0;
     let mut at: usize = 3;
     while n < count {
-        table[5 * n] = at;
+        table[NODE_SLOTS * n] = at;
         let c = wide(s[at + 3]);
         let v = wide(s[at + 4 + c]);
         at = fill_variables(s, n, v, at + 5 + c, table);
@@ -69,7 +87,7 @@ pub fn kind_of(s: &[u8], table: &[usize], n: usize) -> u8
     requires { ⌜ NodeIn (now s) (now table) n ⌝ }
     ensures { λ r. ⌜ AtMost 1 (nodeAt (schemaOf (now (s .entry))) n .kind) r ⌝ }
 {
-    let at = table[5 * n];
+    let at = table[NODE_SLOTS * n];
     s[at + 2]
 }
 
@@ -78,7 +96,7 @@ pub fn successor_count(s: &[u8], table: &[usize], n: usize) -> usize
     requires { ⌜ NodeIn (now s) (now table) n ⌝ }
     ensures { λ r. ⌜ AtMost 8 (length (nodeAt (schemaOf (now (s .entry))) n .successors)) r ⌝ }
 {
-    let at = table[5 * n];
+    let at = table[NODE_SLOTS * n];
     wide(s[at + 3])
 }
 
@@ -88,7 +106,7 @@ pub fn successor_of(s: &[u8], table: &[usize], n: usize, j: usize) -> usize
     requires { ⌜ j < length (nodeAt (schemaOf (now s)) n .successors) ⌝ }
     ensures { λ r. ⌜ SuccessorIs (schemaOf (now (s .entry))) n j r ⌝ }
 {
-    let at = table[5 * n];
+    let at = table[NODE_SLOTS * n];
     wide(s[at + 4 + j])
 }
 
@@ -97,7 +115,7 @@ pub fn variable_count(s: &[u8], table: &[usize], n: usize) -> usize
     requires { ⌜ NodeIn (now s) (now table) n ⌝ }
     ensures { λ r. ⌜ AtMost 4 (length (nodeAt (schemaOf (now (s .entry))) n .variables)) r ⌝ }
 {
-    let at = table[5 * n];
+    let at = table[NODE_SLOTS * n];
     let c = wide(s[at + 3]);
     wide(s[at + 4 + c])
 }
@@ -108,7 +126,7 @@ pub fn variable_of(s: &[u8], table: &[usize], n: usize, k: usize) -> Variable
     requires { ⌜ k < length (nodeAt (schemaOf (now s)) n .variables) ⌝ }
     ensures { λ r. ⌜ r ≡ variableAt (schemaOf (now (s .entry))) n k ⌝ }
 {
-    let at = table[5 * n + 1 + k];
+    let at = table[NODE_SLOTS * n + 1 + k];
     if s[at] == 0 {
         return Variable::Number {
             lo: fields::i32_at(s, at + 1),
@@ -124,7 +142,7 @@ pub fn is_number(s: &[u8], table: &[usize], n: usize, k: usize) -> bool
     requires { ⌜ k < length (nodeAt (schemaOf (now s)) n .variables) ⌝ }
     ensures { λ r. ⌜ r ≡ isNumber (variableAt (schemaOf (now (s .entry))) n k) ⌝ }
 {
-    let at = table[5 * n + 1 + k];
+    let at = table[NODE_SLOTS * n + 1 + k];
     if s[at] == 0 {
         return true;
     }

@@ -304,14 +304,41 @@ tz-bit k m h l = one-is m (trailingZeros k m) (tz-one k m h l)
 pub tz-least : (k m y : ℕ) → bit m y ≡ true → trailingZeros k m ≤ y
 tz-least k m y h = tz-low k m y (is-one m y h)
 
--- a number without bits is zero
+-- ---- numbers with the same bits
+
+same-digit : (p q : ℕ) → p < 2 → q < 2 → eqb p 1 ≡ eqb q 1 → p ≡ q
+same-digit zero zero h l e = refl
+same-digit zero (suc zero) h l e = never e
+same-digit (suc zero) zero h l e = never (sym e)
+same-digit (suc zero) (suc zero) h l e = refl
+same-digit zero (suc (suc q)) h l e = absurd (omega arith)
+same-digit (suc zero) (suc (suc q)) h l e = absurd (omega arith)
+same-digit (suc (suc p)) q h l e = absurd (omega arith)
+
+digits-same : (k a b : ℕ) → a < 2 ^ k → b < 2 ^ k → ((i : ℕ) → digit a i ≡ digit b i) → a ≡ b
+digits-same zero a b h l f = let x : a < 1 = h in let y : b < 1 = l in omega arith
+digits-same (suc k) a b h l f =
+    omega (
+      arith,
+      digits-same k (a / 2) (b / 2) (half-below k a h) (half-below k b l) (λ i. sym (digit-suc a i) ∙ f (suc i) ∙ digit-suc b i),
+      sym (digit-zero a) ∙ f 0 ∙ digit-zero b,
+    )
+
 below-pow : (m : ℕ) → m < 2 ^ m
 below-pow zero = omega arith
 below-pow (suc m) = omega (arith, below-pow m, pow-suc 2 m)
 
-pub bits-none : (m : ℕ) → ((i : ℕ) → bit m i ≡ false) → m ≡ 0
-bits-none m f = go (decLt 0 m)
+pub bits-same : (a b : ℕ) → ((i : ℕ) → bit a i ≡ bit b i) → a ≡ b
+unfolding bit
+bits-same a b f = digits-same (a + b) a b (below a (omega arith)) (below b (omega arith)) (λ i. same-digit (digit a i) (digit b i) (omega arith) (omega arith) (f i))
   where
-    go : Dec (0 < m) → m ≡ 0
-    go (yes h) = never (sym (f (trailingZeros m m)) ∙ tz-bit m m h (below-pow m))
-    go (no h) = omega arith
+    below : (x : ℕ) → x ≤ a + b → x < 2 ^ (a + b)
+    below x h = lt-of-lt-of-le (below-pow x) (pow-mono h)
+
+-- a bit that was not set, set and turned
+pub turned-with : (m x : ℕ) → x < 64 → bit m x ≡ false → turned (with m x) x ≡ m
+turned-with m x h e = bits-same (turned (with m x) x) m (λ i. turned-bit (with m x) x i h ∙ rw (with-bit m x i h) (go i (eqb i x) refl))
+  where
+    go : (i : ℕ) (t : Bool) → eqb i x ≡ t → cond t (not (bit m i || t)) (bit m i || t) ≡ bit m i
+    go i true q = ap not (or-right (bit m i) true refl) ∙ sym (ap (bit m) (eqb-true i x q) ∙ e)
+    go i false q = sym (or-false (bit m i))

@@ -16,8 +16,14 @@ countUp zero c = []
 countUp (suc k) c = c ∷ countUp k (c + 1)
 
 -- a table of ranks, eight to a row: a row for each policy in force, in file order, a column for each successor
+abbrev pub rowSlot : ℕ → ℕ
+rowSlot j = 8 * j
+
+abbrev pub rankSlot : ℕ → ℕ → ℕ
+rankSlot j k = rowSlot j + k
+
 abbrev pub rankIn : List ℕ → ℕ → ℕ → ℕ
-rankIn t j k = getD t (8 * j + k) 0
+rankIn t j k = getD t (rankSlot j k) 0
 
 -- the order of two columns by the rows
 unfoldable pub betterIn : List ℕ → ℕ → ℕ → ℕ → Bool

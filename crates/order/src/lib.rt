@@ -3,10 +3,17 @@
 ghost use mathlib.Core.Path.{_≡_};
 ghost use Prim.Native.Nat.{_+_, _*_, _<_, _≤_, min, max};
 ghost use lib.ListN.{length};
+ghost use Rattle.policies.specs.Policies.{mostPolicies};
 ghost use Rattle.schema.specs.Schema.{schemaOf, nodeAt};
 ghost use Rattle.schema.specs.Table.{NodeIn, AtMost};
 ghost use Rattle.model.specs.Satisfaction.{columnOf, every};
 ghost use Rattle.order.specs.Order.{inSet, betterIn, allowedIn, over, Keyed, TwoLeast, First, Kept, Picked};
+use policies::MOST_POLICIES;
+use schema::MOST_NODES;
+use schema::MOST_SUCCESSORS;
+
+// A table of ranks: a row for each policy, a column for each successor.
+pub const RANKS: usize = MOST_POLICIES * MOST_SUCCESSORS;
 
 // The column of x among node n's successors, their number where it is none of them.
 pub fn column_of(schema: &[u8], table: &[usize], n: usize, x: usize) -> usize
@@ -25,7 +32,7 @@ pub fn column_of(schema: &[u8], table: &[usize], n: usize, x: usize) -> usize
 }
 
 // Whether all of node n's successors are in a set of nodes.
-pub fn all_in(schema: &[u8], table: &[usize], n: usize, nodes: &[u8; 64]) -> bool
+pub fn all_in(schema: &[u8], table: &[usize], n: usize, nodes: &[u8; MOST_NODES]) -> bool
     requires { ⌜ NodeIn (now schema) (now table) n ⌝ }
     ensures { λ r. ⌜ r ≡ every (inSet (now (nodes .entry))) (nodeAt (schemaOf (now (schema .entry))) n .successors) ⌝ }
 {
@@ -42,16 +49,16 @@ pub fn all_in(schema: &[u8], table: &[usize], n: usize, nodes: &[u8; 64]) -> boo
 }
 
 // Whether column p is better than column q.
-fn is_better(ranks: &[u8; 128], rows: usize, p: usize, q: usize) -> bool
-    requires { ⌜ rows ≤ 16 ⌝ }
+fn is_better(ranks: &[u8; RANKS], rows: usize, p: usize, q: usize) -> bool
+    requires { ⌜ rows ≤ mostPolicies ⌝ }
     requires { ⌜ p < 8 ⌝ }
     requires { ⌜ q < 8 ⌝ }
     ensures { λ r. ⌜ r ≡ betterIn (now (ranks .entry)) rows p q ⌝ }
 {
     let mut j: usize = 0;
     while j < rows {
-        let x = ranks[8 * j + p];
-        let y = ranks[8 * j + q];
+        let x = ranks[MOST_SUCCESSORS * j + p];
+        let y = ranks[MOST_SUCCESSORS * j + q];
         if x < y {
             return true;
         }
@@ -64,14 +71,14 @@ fn is_better(ranks: &[u8; 128], rows: usize, p: usize, q: usize) -> bool
 }
 
 // Whether no row forbids column k.
-fn is_allowed(ranks: &[u8; 128], rows: usize, k: usize) -> bool
-    requires { ⌜ rows ≤ 16 ⌝ }
+fn is_allowed(ranks: &[u8; RANKS], rows: usize, k: usize) -> bool
+    requires { ⌜ rows ≤ mostPolicies ⌝ }
     requires { ⌜ k < 8 ⌝ }
     ensures { λ r. ⌜ r ≡ allowedIn (now (ranks .entry)) rows k ⌝ }
 {
     let mut j: usize = 0;
     while j < rows {
-        if ranks[8 * j + k] == 255 {
+        if ranks[MOST_SUCCESSORS * j + k] == 255 {
             return false;
         }
         j += 1;
@@ -80,8 +87,8 @@ fn is_allowed(ranks: &[u8; 128], rows: usize, k: usize) -> bool
 }
 
 // Column k in place of x, which is 8 for none, where k is better.
-fn better_of(ranks: &[u8; 128], rows: usize, k: usize, x: usize) -> usize
-    requires { ⌜ rows ≤ 16 ⌝ }
+fn better_of(ranks: &[u8; RANKS], rows: usize, k: usize, x: usize) -> usize
+    requires { ⌜ rows ≤ mostPolicies ⌝ }
     requires { ⌜ k < 8 ⌝ }
     requires { ⌜ x ≤ 8 ⌝ }
     ensures { λ r. ⌜ r ≡ over (now (ranks .entry)) rows k x ⌝ }
@@ -96,8 +103,8 @@ fn better_of(ranks: &[u8; 128], rows: usize, k: usize, x: usize) -> usize
 }
 
 // The column that comes first in a set, 8 if there is none.
-fn first_in(ranks: &[u8; 128], rows: usize, columns: usize, set: &[u8; 8]) -> usize
-    requires { ⌜ rows ≤ 16 ⌝ }
+fn first_in(ranks: &[u8; RANKS], rows: usize, columns: usize, set: &[u8; MOST_SUCCESSORS]) -> usize
+    requires { ⌜ rows ≤ mostPolicies ⌝ }
     requires { ⌜ columns ≤ 8 ⌝ }
     ensures { λ r. ⌜ First (now (ranks .entry)) rows (now (set .entry)) columns r ⌝ }
 {
@@ -146,7 +153,7 @@ struct Least {
 }
 
 // The least and the second least of the columns' keys by the first row. No branch depends on the ranks or on the set.
-fn two_least(ranks: &[u8; 128], columns: usize, set: &[u8; 8]) -> Least
+fn two_least(ranks: &[u8; RANKS], columns: usize, set: &[u8; MOST_SUCCESSORS]) -> Least
     requires { ⌜ columns ≤ 8 ⌝ }
     ensures { λ r. ⌜ TwoLeast (now (ranks .entry)) (now (set .entry)) columns (r .least) (r .second) ⌝ }
 {
@@ -163,8 +170,8 @@ fn two_least(ranks: &[u8; 128], columns: usize, set: &[u8; 8]) -> Least
 }
 
 // The column that comes first in a set, 8 if there is none: as a rule the first row decides.
-fn first_of(ranks: &[u8; 128], rows: usize, columns: usize, set: &[u8; 8]) -> usize
-    requires { ⌜ rows ≤ 16 ⌝ }
+fn first_of(ranks: &[u8; RANKS], rows: usize, columns: usize, set: &[u8; MOST_SUCCESSORS]) -> usize
+    requires { ⌜ rows ≤ mostPolicies ⌝ }
     requires { ⌜ columns ≤ 8 ⌝ }
     ensures { λ r. ⌜ First (now (ranks .entry)) rows (now (set .entry)) columns r ⌝ }
 {
@@ -179,8 +186,14 @@ fn first_of(ranks: &[u8; 128], rows: usize, columns: usize, set: &[u8; 8]) -> us
 }
 
 // The columns of a set that no row forbids.
-fn keep_allowed(ranks: &[u8; 128], rows: usize, columns: usize, set: &[u8; 8], kept: &mut [u8; 8])
-    requires { ⌜ rows ≤ 16 ⌝ }
+fn keep_allowed(
+    ranks: &[u8; RANKS],
+    rows: usize,
+    columns: usize,
+    set: &[u8; MOST_SUCCESSORS],
+    kept: &mut [u8; MOST_SUCCESSORS],
+)
+    requires { ⌜ rows ≤ mostPolicies ⌝ }
     requires { ⌜ columns ≤ 8 ⌝ }
     requires { ⌜ length (now kept) ≡ 8 ⌝ }
     ensures { λ _. ⌜ Kept (now (ranks .entry)) rows (now (set .entry)) columns (now (kept .exit)) ⌝ }
@@ -199,8 +212,8 @@ fn keep_allowed(ranks: &[u8; 128], rows: usize, columns: usize, set: &[u8; 8], k
 
 // The column that comes first among those in the set that no row forbids, 8 if there is none: as a rule the first of the
 // set, which is then the only one held to the rows.
-pub fn pick(ranks: &[u8; 128], rows: usize, columns: usize, set: &[u8; 8]) -> usize
-    requires { ⌜ rows ≤ 16 ⌝ }
+pub fn pick(ranks: &[u8; RANKS], rows: usize, columns: usize, set: &[u8; MOST_SUCCESSORS]) -> usize
+    requires { ⌜ rows ≤ mostPolicies ⌝ }
     requires { ⌜ columns ≤ 8 ⌝ }
     ensures { λ r. ⌜ Picked (now (ranks .entry)) rows (now (set .entry)) columns r ⌝ }
 {
@@ -209,7 +222,7 @@ pub fn pick(ranks: &[u8; 128], rows: usize, columns: usize, set: &[u8; 8]) -> us
         if is_allowed(ranks, rows, x) {
             return x;
         }
-        let mut kept = [0u8; 8];
+        let mut kept = [0u8; MOST_SUCCESSORS];
         keep_allowed(ranks, rows, columns, set, &mut kept);
         return first_of(ranks, rows, columns, &kept);
     }

@@ -13,22 +13,21 @@ use borrow.Author.Tests.{lt-ltb, le-ltb}
 use Rattle.fields.specs.Reading.{Got, got, bad}
 use Rattle.fields.specs.Writing.{put}
 use Rattle.fields.specs.Answers.{success}
-use Rattle.fields.specs.Outcomes.{Outcome, Did, refused, judgedIn, placed}
+use Rattle.fields.specs.Outcomes.{Outcome, Did, refused, leaving, placed}
 use Rattle.fields.specs.declared.Answer.{Answer}
 use Rattle.fields.proofs.Bytes.{put-none, put-put}
-use Rattle.schema.specs.Schema.{Node, schema}
-use Rattle.policies.specs.Policies.{policies}
-use Rattle.policies.specs.Pass.{pass, forced}
+use Rattle.schema.specs.Schema.{Node}
 use Rattle.instances.specs.Instance.{Entry}
-use Rattle.instances.specs.File.{encode}
+use Rattle.instances.specs.File.{encode, mostBytes}
 use Rattle.model.specs.Reconciling.{reconciled}
-use Rattle.calls.specs.Calls.{given, reconcilingUnder, reconciling}
+use Rattle.calls.specs.Calls.{given, reconciling}
+use Rattle.calls.proofs.Inputs.{inputs-all}
 use Rattle.lines.specs.Record.{Pass, passAt, passIn}
 use Rattle.lines.specs.Line.{lineOf, badLineOf, Laid}
 use Rattle.lines.specs.declared.PassRead.{PassRead}
 use Rattle.lines.specs.declared.PassRead.the-variants.{Days, NoPass}
 use Rattle.lines.proofs.Record.{pass-taken, no-pass-stops}
-use Rattle.passplan.specs.Program.{lineIn, passLine, lineFor, ends, linesAt, lastAt, Answered, Printed}
+use Rattle.passplan.specs.Program.{lineIn, mostLine, passLine, lineFor, ends, linesAt, lastAt, Answered, Printed}
 use Rattle.passplan.specs.declared.Place.{Place}
 
 -- ---- a length that was answered is within the buffer, which keeps its own
@@ -36,11 +35,6 @@ use Rattle.passplan.specs.declared.Place.{Place}
 record Within (out : List ℕ) (o : Outcome) : Type 0 where
   inside : o .answer .value ≤ length (o .buffer)
   long : length (o .buffer) ≡ length out
-
-judged-within : {A : Type 0} (out : List ℕ) (file : ℕ) (g : Got A) (k : A → Outcome) → ((x : A) → Within out (k x)) → Within out (judgedIn out file g k)
-unfolding judgedIn
-judged-within out file (got x p) k h = h x
-judged-within out file (bad n o) k h = record { inside = omega arith; long = refl }
 
 placed-within : (file out : List ℕ) → Within out (placed file out)
 unfolding placed
@@ -60,29 +54,26 @@ given-within g out none = record { inside = omega arith; long = refl }
 given-within g out (some i) = placed-within (encode g i) out
 
 reconciling-within : (f p : List ℕ) (a b : ℕ) (out : List ℕ) → Within out (reconciling f p a b out)
-unfolding reconciling reconcilingUnder
+unfolding reconciling
 reconciling-within f p a b out =
-    judged-within out 1 (schema f) _
-    (λ g. judged-within out 2 (policies g p) _
-    (λ ps. judged-within out 3 (pass a b) _
-    (λ _. given-within g out (reconciled g (forced a b ps)))))
+    inputs-all (Within out) (leaving out) (λ n file o i. record { inside = omega arith; long = refl }) f p a b _ λ g q e ps. given-within g out (reconciled g ps)
 
 module _ (f p : List ℕ) (a b : ℕ) (x : List ℕ) {r : Answer} {after : List ℕ} (d : Did (reconciling f p a b x) r after) where
   pub value-inside : r .value ≤ length after
   value-inside = rw (d .answer, d .buffer) (reconciling-within f p a b x .inside)
 
-  value-small : length x ≡ 1283 → r .value ≤ 1283
+  value-small : length x ≡ mostBytes → r .value ≤ mostBytes
   value-small l = omega (arith, value-inside, ap length (d .buffer), reconciling-within f p a b x .long)
 
   pub value-taken : r .value ≡ length (take (r .value) after)
   value-taken = sym (length-take-le (r .value) after value-inside)
 
-  pub line-fits : (o : List ℕ) (to : ℕ) → length x ≡ 1283 → to + 2630 ≤ length o → to + 64 + 2 * length (take (r .value) after) ≤ length o
+  pub line-fits : (o : List ℕ) (to : ℕ) → length x ≡ mostBytes → to + mostLine ≤ length o → to + 64 + 2 * length (take (r .value) after) ≤ length o
   line-fits o to l h = omega (arith, value-taken, value-small l)
 
   pub pass-laid : (o : List ℕ) (to : ℕ) {c : List ℕ} {e : ℕ}
       → Laid (64 + 2 * length (take (r .value) after)) o to (lineOf a b (r .number) (r .file) (r .offset) (take (r .value) after)) c e
-      → length x ≡ 1283 → Laid 2630 o to (lineIn a b (reconciling f p a b x)) c e
+      → length x ≡ mostBytes → Laid mostLine o to (lineIn a b (reconciling f p a b x)) c e
   unfolding lineIn
   pass-laid o to w l =
       record { wrote = rw (sym (d .answer), sym (d .buffer)) (w .wrote); short = omega (arith, w .short, value-taken, value-small l) }
@@ -100,7 +91,7 @@ module _ (f p : List ℕ) (from : ℕ) (s : List ℕ) (at : ℕ) {g : PassRead} 
       let z = e ∙ ap passIn h in
       record { laid = rw z (record { wrote = w .wrote; short = omega (arith, w .short) }); last = rw z refl }
 
-  pub good-answered : (b : List ℕ) (to : ℕ) {x y q : ℕ} {c : List ℕ} {r : ℕ} → g ≡ Days x y q → Laid 2630 b to (lineIn x y (reconciling f p x y (replicate 1283 0))) c r
+  pub good-answered : (b : List ℕ) (to : ℕ) {x y q : ℕ} {c : List ℕ} {r : ℕ} → g ≡ Days x y q → Laid mostLine b to (lineIn x y (reconciling f p x y (replicate mostBytes 0))) c r
       → Answered f p from s at b to c (record { end = r; last = false })
   unfolding lineFor ends passLine
   good-answered b to h w = let z = e ∙ ap passIn h in record { laid = rw z w; last = rw z refl }
@@ -112,7 +103,7 @@ pub record Printing (f p : List ℕ) (from : ℕ) (s : List ℕ) (most : ℕ) (b
   pub same : put b to (linesAt f p from s left at) ≡ put b₀ 0 (linesAt f p from s most 0)
   pub count : to + length (linesAt f p from s left at) ≡ length (linesAt f p from s most 0)
   pub last : lastAt s left at ≡ lastAt s most 0
-  pub room : to + 2630 * left ≤ 2630 * most
+  pub room : to + mostLine * left ≤ mostLine * most
   pub long : length b ≡ length b₀
 
 pub printing-none : (f p : List ℕ) (from : ℕ) (s : List ℕ) (most : ℕ) (b : List ℕ) → Printing f p from s most b b most 0 0
@@ -181,11 +172,11 @@ module _ (f p : List ℕ) (from : ℕ) (s : List ℕ) (most : ℕ) (b₀ b : Lis
   unfolding linesAt lastAt
   printed-most h = let z : left ≡ 0 = omega arith in printed (rw z refl) (rw z refl)
 
-  pub line-room : 0 < left → 2630 * most ≤ length b₀ → to + 2630 ≤ length b
+  pub line-room : 0 < left → mostLine * most ≤ length b₀ → to + mostLine ≤ length b
   line-room h l = omega (arith, w .room, w .long)
 
   module _ {c : List ℕ} {r : Place} (h : 0 < left) (l : at < length s) (d : Answered f p from s at b to c r) where
-    pub printed-bad : r .last ≡ true → 2630 * most ≤ length b₀ → Printed f p from s most b₀ c (record { end = r .end; last = true })
+    pub printed-bad : r .last ≡ true → mostLine * most ≤ length b₀ → Printed f p from s most b₀ c (record { end = r .end; last = true })
     printed-bad e m =
         let t = sym (d .last) ∙ e in
         let z : linesAt f p from s left at ≡ lineFor f p from (passAt s at) ++ [] = lines-here f p from s left at h l ∙ rw t refl in
@@ -209,7 +200,7 @@ module _ (f p : List ℕ) (from : ℕ) (s : List ℕ) (most : ℕ) (b₀ b : Lis
     pub six-fit : r .last ≡ false → at + 6 ≤ length s
     six-fit e = six-inside s at (sym (d .last) ∙ e)
 
-    pub printing-more : r .last ≡ false → 2630 * most ≤ length b₀ → Printing f p from s most b₀ c (left - 1) (at + 6) (r .end)
+    pub printing-more : r .last ≡ false → mostLine * most ≤ length b₀ → Printing f p from s most b₀ c (left - 1) (at + 6) (r .end)
     printing-more e m =
         let t = sym (d .last) ∙ e in
         let line = lineFor f p from (passAt s at) in

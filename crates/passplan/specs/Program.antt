@@ -9,6 +9,7 @@ use Rattle.fields.specs.Reading.{Got, got, bad}
 use Rattle.fields.specs.Outcomes.{Outcome}
 use Rattle.lines.specs.Record.{Pass, passAt}
 use Rattle.lines.specs.Line.{lineOf, badLineOf, Laid}
+use Rattle.instances.specs.File.{mostBytes}
 use Rattle.calls.specs.Calls.{reconciling}
 use Rattle.passplan.specs.declared.Place.{Place}
 
@@ -16,9 +17,9 @@ use Rattle.passplan.specs.declared.Place.{Place}
 unfoldable pub lineIn : ℕ → ℕ → Outcome → List ℕ
 lineIn a b o = lineOf a b (o .answer .number) (o .answer .file) (o .answer .offset) (take (o .answer .value) (o .buffer))
 
--- 'For each it reconciles into 1,283 bytes', with schema file f and policies file p
+-- 'for each it reconciles into 1,283 bytes', with schema file f and policies file p
 unfoldable pub passLine : List ℕ → List ℕ → ℕ → ℕ → List ℕ
-passLine f p a b = lineIn a b (reconciling f p a b (replicate 1283 0))
+passLine f p a b = lineIn a b (reconciling f p a b (replicate mostBytes 0))
 
 -- the line of a record, where s stands in the input from a place on:
 -- a breach's offset is 'from the start of the input'
@@ -44,12 +45,16 @@ unfoldable pub lastAt : List ℕ → ℕ → ℕ → Bool
 lastAt s zero at = false
 lastAt s (suc k) at = cond (ltb at (length s)) (cond (ends (passAt s at)) true (lastAt s k (at + 6))) false
 
--- the line of the record at a place is put; it has at most 2,630 bytes, two for each of 1,283 and 64 more
+-- a line has at most so many bytes: two for each of an instance's, and 64 more
+abbrev pub mostLine : ℕ
+mostLine = 2630
+
+-- the line of the record at a place is put
 pub record Answered (f p : List ℕ) (from : ℕ) (s : List ℕ) (at : ℕ) (b : List ℕ) (to : ℕ) (after : List ℕ) (r : Place) : Type 0 where
-  pub laid : Laid 2630 b to (lineFor f p from (passAt s at)) after (r .end)
+  pub laid : Laid mostLine b to (lineFor f p from (passAt s at)) after (r .end)
   pub last : r .last ≡ ends (passAt s at)
 
 -- the lines of s are put at the start of the buffer
 pub record Printed (f p : List ℕ) (from : ℕ) (s : List ℕ) (most : ℕ) (b after : List ℕ) (r : Place) : Type 0 where
-  pub laid : Laid (2630 * most) b 0 (linesAt f p from s most 0) after (r .end)
+  pub laid : Laid (mostLine * most) b 0 (linesAt f p from s most 0) after (r .end)
   pub last : r .last ≡ lastAt s most 0

@@ -1,4 +1,5 @@
 // Reads schema.bin, policies.bin and records PS of standard input, and prints a line for each.
+use instances::MOST_BYTES;
 use libc::STDIN_FILENO;
 use libc::STDOUT_FILENO;
 use lines::PassRead;
@@ -7,8 +8,9 @@ ghost use Prim.Native.Nat.{_+_, _*_, _<_, _≤_};
 ghost use lib.ListN.{length};
 ghost use Rattle.io.specs.Counts.{Counts};
 ghost use Rattle.lines.specs.Line.{Laid};
+ghost use Rattle.instances.specs.File.{mostBytes};
 ghost use Rattle.calls.specs.Calls.{reconciling};
-ghost use Rattle.passplan.specs.Program.{lineIn, Answered, Printed};
+ghost use Rattle.passplan.specs.Program.{lineIn, mostLine, Answered, Printed};
 
 // Where the lines end, and whether the run ends there too.
 pub struct Place {
@@ -26,9 +28,9 @@ fn put_pass(
     out: &mut [u8],
     to: usize,
 ) -> usize
-    requires { ⌜ length (now instance) ≡ 1283 ⌝ }
-    requires { ⌜ to + 2630 ≤ length (now out) ⌝ }
-    ensures { λ r. ⌜ Laid 2630 (now (out .entry)) to (lineIn a b (reconciling (now (schema .entry)) (now (policies .entry)) a b (now (instance .entry)))) (now (out .exit)) r ⌝ }
+    requires { ⌜ length (now instance) ≡ mostBytes ⌝ }
+    requires { ⌜ to + mostLine ≤ length (now out) ⌝ }
+    ensures { λ r. ⌜ Laid mostLine (now (out .entry)) to (lineIn a b (reconciling (now (schema .entry)) (now (policies .entry)) a b (now (instance .entry)))) (now (out .exit)) r ⌝ }
 {
     let answer = reconciler::reconcile(schema, policies, a, b, instance);
     let n = answer.value;
@@ -55,7 +57,7 @@ fn put_answer(
     to: usize,
 ) -> Place
     requires { ⌜ from + at + 4 < 18446744073709551616 ⌝ }
-    requires { ⌜ to + 2630 ≤ length (now out) ⌝ }
+    requires { ⌜ to + mostLine ≤ length (now out) ⌝ }
     ensures { λ r. ⌜ Answered (now (schema .entry)) (now (policies .entry)) from (now (s .entry)) at (now (out .entry)) to (now (out .exit)) r ⌝ }
 {
     match lines::read_pass(s, at) {
@@ -64,7 +66,7 @@ fn put_answer(
             Place { end, last: true }
         }
         PassRead::Days { a, b, next: _ } => {
-            let mut instance = [0u8; 1283];
+            let mut instance = [0u8; MOST_BYTES];
             let end = put_pass(schema, policies, a, b, &mut instance, out, to);
             Place { end, last: false }
         }
@@ -81,7 +83,7 @@ fn put_lines(
     out: &mut [u8],
 ) -> Place
     requires { ⌜ from + length (now s) + 4 < 18446744073709551616 ⌝ }
-    requires { ⌜ 2630 * most ≤ length (now out) ⌝ }
+    requires { ⌜ mostLine * most ≤ length (now out) ⌝ }
     ensures { λ r. ⌜ Printed (now (schema .entry)) (now (policies .entry)) from (now (s .entry)) most (now (out .entry)) (now (out .exit)) r ⌝ }
 {
     let mut left = most;

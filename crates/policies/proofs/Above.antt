@@ -1,23 +1,18 @@
--- What the crates above have of the index, of policies listed by position, and of the pass.
+-- What the crates above have of the index, and of policies listed by position.
 -- Rests on what the contracts tell, and on Pass for the list.
 use mathlib.Core.Path.{_≡_, refl, ap, ap₂, sym, _∙_}
-use mathlib.Core.Bool.{Bool, true, false, cond, _&&_}
-use mathlib.Core.List.{List, [], _∷_, _++_}
+use mathlib.Core.Bool.{Bool, true, false, cond}
+use mathlib.Core.List.{List, [], _∷_}
 use Prim.Native.Nat.{ℕ, zero, suc, _+_, _*_, _≤_, _<_}
 use native.Mathlib.Omega.{arith}
 use native.Mathlib.Numerals.{add-one}
-use borrow.Author.Tests.{leb-true}
 use lib.ListN.{length, getD, take, drop, replicate, length-replicate, length-append, List·getD-append}
-use lib.Dec.{leb}
 use lib.Seq.{drop-cons, getD-take, length-take-le, take-append-seam}
-use Rattle.fields.specs.Reading.{got}
 use Rattle.fields.specs.Writing.{put}
-use Rattle.fields.proofs.Back.{chosen}
-use Rattle.fields.proofs.Tests.{and-true}
 use Rattle.schema.specs.Schema.{schemaOf}
 use Rattle.schema.specs.Table.{AtMost}
 use Rattle.policies.specs.Policies.{Policy, noPolicy, policiesOf, policyAt}
-use Rattle.policies.specs.Pass.{pass, inForce, forced, positions, Listing, policiesAt, selected, Selected}
+use Rattle.policies.specs.Pass.{inForce, forced, positions, Listing, policiesAt, selected, Selected}
 use Rattle.policies.specs.Index.{IndexIn, PolicyIn, IndexRoom, policyOf}
 use Rattle.policies.proofs.Nodes.{nodes-few}
 use Rattle.policies.proofs.Pass.{Lists, none, more, positions-of, lists-count, lists-at}
@@ -125,12 +120,3 @@ module _ (schema p list : List ℕ) {rows : ℕ} (f : Selected schema p list row
     selected-drop =
         let qs = selected schema p list rows in
         rw (add-one r) (drop-cons qs r noPolicy (omega (arith, selected-rows)) ∙ ap (λ (q : Policy). q ∷ drop (suc r) qs) (sym selected-is))
-
--- ---- the pass
-
-pub pass-days : (a b : ℕ) {v q : ℕ} → pass a b ≡ got v q → (a ≤ b) × (b ≤ a + 1)
-unfolding pass
-pass-days a b e =
-    let c = chosen (leb a b && leb b (a + 1)) (got a 0) 12 0 e in
-    let t = and-true (leb a b) (leb b (a + 1)) (c .0) in
-    (leb-true a b (t .0), leb-true b (a + 1) (t .1))

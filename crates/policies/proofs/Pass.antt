@@ -18,7 +18,7 @@ use Rattle.fields.specs.Writing.{put}
 use Rattle.fields.proofs.Tests.{and-yes, and-no, and-no-2}
 use Rattle.fields.proofs.Bytes.{put-none, put-one, put-put}
 use Rattle.schema.specs.Schema.{schemaOf}
-use Rattle.policies.specs.Policies.{Policy, policiesOf, noPolicy, policyAt}
+use Rattle.policies.specs.Policies.{Policy, headWidth, policiesOf, noPolicy, policyAt}
 use Rattle.policies.specs.Pass.{pass, inForce, forced, positions, Listing}
 use Rattle.policies.specs.Index.{Indexed, PolicyIn, policyOf}
 use Rattle.policies.proofs.Stands.{head-back}
@@ -57,7 +57,7 @@ module _ (schema p t : List ℕ) (j : ℕ) (w : PolicyIn schema p t j) where
   abbrev lent : List ℕ
   lent = take (length p - getD t j 0) (drop (getD t j 0) p)
 
-  pub head-long : 7 ≤ length lent
+  pub head-long : headWidth ≤ length lent
   head-long = head-back lent (policy-here schema p t j w .read) .inside
 
   pub days-tell : (a b : ℕ) {v : Bool} → v ≡ (leb (be 2 lent 2) b && leb a (be 2 lent 4)) → v ≡ inForce a b (policyOf schema p j)

@@ -15,7 +15,7 @@ use Rattle.fields.proofs.Tests.{and-true}
 use Rattle.schema.specs.Schema.{Node, nodeAt}
 use Rattle.schema.specs.declared.Variable.{Variable}
 use Rattle.schema.specs.declared.Variable.the-variants.{Number, Listed}
-use Rattle.policies.specs.Policies.{Condition, range, mask, Rule, Policy, Head, PH, PN, rankCount, ranks, condition, conditions, ruleOf, rule, rules, head, policy, onward, policiesFrom}
+use Rattle.policies.specs.Policies.{Condition, range, mask, Rule, Policy, Head, PH, PN, rankCount, ranks, condition, conditions, ruleOf, rule, rules, head, headWidth, policy, onward, policiesFrom}
 use Rattle.policies.specs.Index.{conditionWidth, conditionsWidth, ruleWidth, rulesWidth, policyWidth}
 
 -- ---- a condition
@@ -220,11 +220,11 @@ rules-back g s (suc k) low p {xs} {q} e =
 
 -- what a head's bytes spell
 pub record HeadAt (s : List ℕ) (x : Head) (q : ℕ) : Type 0 where
-  pub inside : 7 ≤ length s
+  pub inside : headWidth ≤ length s
   pub first : x .first ≡ be 2 s 2
   pub last : x .last ≡ be 2 s 4
   pub days : x .first ≤ x .last
-  pub next : q ≡ 7
+  pub next : q ≡ headWidth
 
 pub head-back : (s : List ℕ) {x : Head} {q : ℕ} → head s ≡ got x q → HeadAt s x q
 unfolding head
@@ -235,7 +235,7 @@ head-back s {x} {q} e =
     let n = any-back 1 s 6 _ (b .then) in
     let z = n .then in
     let k : record { first = be 2 s 2; last = be 2 s 4; count = be 1 s 6 } ≡ x = cc in
-    let d : q ≡ 7 = cc in
+    let d : q ≡ headWidth = cc in
     subst (λ (i : Head). HeadAt s i q) k
     (record { inside = n .inside; first = refl; last = refl; days = leb-true (be 2 s 2) (be 2 s 4) (b .rule-met); next = d })
 

@@ -9,12 +9,19 @@ use Rattle.schema.specs.Schema.{Node, schemaOf, nodeAt}
 use Rattle.schema.specs.Table.{Tabled}
 use Rattle.schema.specs.declared.Variable.{Variable}
 use Rattle.schema.specs.declared.Variable.the-variants.{Number, Listed}
-use Rattle.policies.specs.Policies.{Condition, range, mask, Rule, Policy, rankCount, policiesOf, policyAt}
+use Rattle.policies.specs.Policies.{Condition, range, mask, Rule, Policy, rankCount, mostPolicies, policiesOf, policyAt}
+
+-- the bytes of a number's condition and of a listed variable's
+abbrev pub rangeWidth : ℕ
+rangeWidth = 8
+
+abbrev pub maskWidth : ℕ
+maskWidth = 4
 
 -- the bytes of a condition, of a PN and of a policy
 unfoldable pub conditionWidth : Condition → ℕ
-conditionWidth (range lo hi) = 8
-conditionWidth (mask m) = 4
+conditionWidth (range lo hi) = rangeWidth
+conditionWidth (mask m) = maskWidth
 
 unfoldable pub conditionsWidth : List Condition → ℕ
 conditionsWidth [] = 0
@@ -32,8 +39,8 @@ policyWidth x = x .body + rulesWidth (x .rules)
 
 -- the same from the schema: the bytes of a variable's condition, and of the conditions before the k-th
 unfoldable pub span : Variable → ℕ
-span (Number lo hi) = 8
-span (Listed size) = 4
+span (Number lo hi) = rangeWidth
+span (Listed size) = maskWidth
 
 unfoldable pub spans : ℕ → List Variable → ℕ
 spans zero vs = 0
@@ -44,20 +51,30 @@ spans (suc k) (v ∷ vs) = span v + spans k vs
 unfoldable pub offsetOf : Node → ℕ → ℕ
 offsetOf x k = rankCount x + spans k (x .variables)
 
--- place 16 + 16 n + j of the index: where policy j's ranks of node n begin, counted from its head, 0 for nowhere
+-- the slots of the index: one for the head of each policy, then one a policy for each node; so many up to node n
+abbrev pub headSlot : ℕ → ℕ
+headSlot j = j
+
+abbrev pub indexSlots : ℕ → ℕ
+indexSlots n = mostPolicies + mostPolicies * n
+
+abbrev pub ruleSlot : ℕ → ℕ → ℕ
+ruleSlot n j = indexSlots n + j
+
+-- where policy j's ranks of the nodes begin, counted from its head, 0 for nowhere
 unfoldable pub fillRules : ℕ → ℕ → List Rule → List ℕ → List ℕ
 fillRules j p [] t = t
-fillRules j p (x ∷ xs) t = fillRules j (p + ruleWidth x) xs (set t (16 + 16 * x .node + j) (p + 3))
+fillRules j p (x ∷ xs) t = fillRules j (p + ruleWidth x) xs (set t (ruleSlot (x .node) j) (p + 3))
 
--- place j: where policy j's head is in the file
+-- where policy j's head is in the file
 unfoldable pub fillPolicy : ℕ → ℕ → Policy → List ℕ → List ℕ
-fillPolicy j h x t = fillRules j (x .body) (x .rules) (set t j h)
+fillPolicy j h x t = fillRules j (x .body) (x .rules) (set t (headSlot j) h)
 
 unfoldable pub fillPolicies : ℕ → ℕ → List Policy → List ℕ → List ℕ
 fillPolicies j h [] t = t
 fillPolicies j h (x ∷ xs) t = fillPolicies (j + 1) (h + policyWidth x) xs (fillPolicy j h x t)
 
--- an index of m places
+-- an index of m slots
 unfoldable pub indexOf : ℕ → List Policy → List ℕ
 indexOf m ps = fillPolicies 0 0 ps (replicate m 0)
 
@@ -68,7 +85,7 @@ pub record SchemaIn (s t : List ℕ) (count : ℕ) : Type 0 where
 
 -- where policy j speaks of node n in the file: where its ranks begin, 0 for nowhere
 unfoldable pub placeIn : List ℕ → ℕ → ℕ → ℕ
-placeIn index j n = cond (eqb (getD index (16 + 16 * n + j) 0) 0) 0 (getD index j 0 + getD index (16 + 16 * n + j) 0)
+placeIn index j n = cond (eqb (getD index (ruleSlot n j) 0) 0) 0 (getD index (headSlot j) 0 + getD index (ruleSlot n j) 0)
 
 -- policy j of the file p, under the schema file s
 abbrev pub policyOf : List ℕ → List ℕ → ℕ → Policy
@@ -77,7 +94,7 @@ policyOf s p j = policyAt (policiesOf (schemaOf s) p) j
 -- t is the index of the file p under the schema file s; it may be longer than the nodes need
 pub record IndexIn (s p t : List ℕ) : Type 0 where
   pub filled : t ≡ indexOf (length t) (policiesOf (schemaOf s) p)
-  pub long : 16 + 16 * length (schemaOf s) ≤ length t
+  pub long : indexSlots (length (schemaOf s)) ≤ length t
 
 -- t is the index of the file p, which has so many policies
 pub record Indexed (s p t : List ℕ) (count : ℕ) : Type 0 where
@@ -94,7 +111,7 @@ pub record RankIn (s : List ℕ) (n k : ℕ) : Type 0 where
   pub below : n < length (schemaOf s)
   pub rank : k < rankCount (nodeAt (schemaOf s) n)
 
--- t holds nothing, and has a place for each policy and each node of the schema file s
+-- t holds nothing, and has a slot for each policy and each node of the schema file s
 pub record IndexRoom (s t : List ℕ) : Type 0 where
   pub blank : t ≡ replicate (length t) 0
-  pub long : 16 + 16 * length (schemaOf s) ≤ length t
+  pub long : indexSlots (length (schemaOf s)) ≤ length t

@@ -8,7 +8,7 @@ use lib.ListN.{length, getD, take}
 use Rattle.fields.specs.Writing.{put}
 use Rattle.fields.specs.Reading.{Got, got, bad}
 use Rattle.schema.specs.Schema.{schemaOf}
-use Rattle.policies.specs.Policies.{Policy, policiesOf, policyAt}
+use Rattle.policies.specs.Policies.{Policy, mostPolicies, policiesOf, policyAt}
 
 -- '12 b below a or above a + 1; offset 0'; what is read is the first day
 unfoldable pub pass : ℕ → ℕ → Got ℕ
@@ -46,6 +46,6 @@ selected s p t n = policiesAt (policiesOf (schemaOf s) p) (take n t)
 
 -- the first n of the list t are positions of policies in the file p
 pub record Selected (s p t : List ℕ) (n : ℕ) : Type 0 where
-  pub few : n ≤ 16
+  pub few : n ≤ mostPolicies
   pub long : n ≤ length t
   pub below : (r : ℕ) → r < n → getD t r 0 < length (policiesOf (schemaOf s) p)

@@ -91,6 +91,10 @@ head s =
     part (whole 1 s p) λ n p.
     got (record { first = first; last = last; count = n }) p
 
+-- the bytes of a PH
+abbrev pub headWidth : ℕ
+headWidth = 7
+
 -- one policy 'on its own stretch of the file', from its head onward
 unfoldable pub policy : List Node → List ℕ → Got Policy
 policy g s =
@@ -114,8 +118,11 @@ policiesFrom g s (suc k) p =
     (got [] p)
 
 -- 'none to sixteen policies'
+abbrev pub mostPolicies : ℕ
+mostPolicies = 16
+
 unfoldable pub policies : List Node → List ℕ → Got (List Policy)
-policies g s = policiesFrom g s 16 0
+policies g s = policiesFrom g s mostPolicies 0
 
 -- the policies of a file: none where it is refused
 abbrev pub policiesIn : Got (List Policy) → List Policy
@@ -125,8 +132,12 @@ policiesIn (bad n o) = []
 unfoldable pub policiesOf : List Node → List ℕ → List Policy
 policiesOf g s = policiesIn (policies g s)
 
+-- a policy that says no more than these PN
+abbrev pub ofRules : List Rule → Policy
+ofRules xs = record { first = 0; last = 0; body = 0; rules = xs }
+
 abbrev pub noPolicy : Policy
-noPolicy = record { first = 0; last = 0; body = 0; rules = [] }
+noPolicy = ofRules []
 
 abbrev pub policyAt : List Policy → ℕ → Policy
 policyAt ps j = getD ps j noPolicy

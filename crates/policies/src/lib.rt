@@ -8,10 +8,29 @@ ghost use Rattle.fields.specs.Reading.{be};
 ghost use Rattle.fields.specs.Answers.{stepOf};
 ghost use Rattle.schema.specs.Schema.{schemaOf, nodeAt};
 ghost use Rattle.schema.specs.Table.{NodeIn, AtMost};
-ghost use Rattle.policies.specs.Policies.{rankCount, rankOf, policiesOf};
+ghost use Rattle.policies.specs.Policies.{headWidth, rankCount, rankOf, mostPolicies, policiesOf};
 ghost use Rattle.policies.specs.Pass.{pass, inForce, positions, Listing};
 ghost use Rattle.policies.specs.Index.{policyOf, placeIn, Indexed, PolicyIn, RankIn};
 use fields::Step;
+use nodes::FEW_NODES;
+use nodes::FEWEST_NODES;
+use schema::MOST_NODES;
+
+// A file has at most so many policies.
+pub const MOST_POLICIES: usize = 16;
+
+// The bytes of a condition: a range's, a mask's.
+pub const RANGE_WIDTH: usize = 8;
+
+pub const MASK_WIDTH: usize = 4;
+
+// An index for any schema, and shorter ones for few nodes: a slot for the head of each policy, then one a policy for each
+// node.
+pub const INDEX_SLOTS: usize = MOST_POLICIES + MOST_POLICIES * MOST_NODES;
+
+pub const FEW_INDEX_SLOTS: usize = MOST_POLICIES + MOST_POLICIES * FEW_NODES;
+
+pub const FEWEST_INDEX_SLOTS: usize = MOST_POLICIES + MOST_POLICIES * FEWEST_NODES;
 
 // The number of ranks that node n has in a PN.
 pub fn rank_count(schema: &[u8], table: &[usize], n: usize) -> usize
@@ -45,7 +64,7 @@ pub fn check_pass(a: u16, b: u16) -> Step
 
 // Whether the days of the policy that the slice begins with meet the pass from a to b.
 fn days_meet(policy: &[u8], a: u16, b: u16) -> bool
-    requires { ⌜ 7 ≤ length (now policy) ⌝ }
+    requires { ⌜ headWidth ≤ length (now policy) ⌝ }
     ensures { λ r. ⌜ r ≡ (leb (be 2 (now (policy .entry)) 2) b && leb a (be 2 (now (policy .entry)) 4)) ⌝ }
 {
     let first = fields::u16_at(policy, 2);
@@ -76,10 +95,10 @@ pub fn list_in_force(
     count: usize,
     a: u16,
     b: u16,
-    list: &mut [usize; 16],
+    list: &mut [usize; MOST_POLICIES],
 ) -> usize
     requires { ⌜ Indexed (now schema) (now p) (now index) count ⌝ }
-    requires { ⌜ length (now list) ≡ 16 ⌝ }
+    requires { ⌜ length (now list) ≡ mostPolicies ⌝ }
     ensures { λ r. ⌜ Listing (positions a b 0 (policiesOf (schemaOf (now (schema .entry))) (now (p .entry)))) (now (list .entry)) (now (list .exit)) r ⌝ }
 {
     let mut n: usize = 0;
@@ -110,7 +129,7 @@ pub fn rank_of(schema: &[u8], p: &[u8], index: &[usize], j: usize, n: usize, k: 
     requires { ⌜ RankIn (now schema) n k ⌝ }
     ensures { λ r. ⌜ r ≡ rankOf (policyOf (now (schema .entry)) (now (p .entry)) j) n k ⌝ }
 {
-    let at = index[16 + 16 * n + j];
+    let at = index[MOST_POLICIES + MOST_POLICIES * n + j];
     if at == 0 {
         return 0;
     }
@@ -124,6 +143,6 @@ pub fn place_of(schema: &[u8], p: &[u8], index: &[usize], j: usize, n: usize) ->
     requires { ⌜ n < length (schemaOf (now schema)) ⌝ }
     ensures { λ r. ⌜ r ≡ placeIn (now (index .entry)) j n ⌝ }
 {
-    let from = index[16 + 16 * n + j];
+    let from = index[MOST_POLICIES + MOST_POLICIES * n + j];
     if from == 0 { 0 } else { index[j] + from }
 }

@@ -229,6 +229,9 @@ lay-same schema n t₀ k w f t v i = length-set t (16 * n) v ∙ i .same
 laid-none : (g : List Node) (m : ℕ) → 16 * length g ≤ m → Laid g 0 (replicate m 0)
 laid-none g m h = record { long = omega (arith, length-replicate {A = ℕ} m 0); each = λ m h. absurd (omega arith) }
 
+pub laid-4 : (schema : List ℕ) {table : List ℕ} {count : ℕ} → SchemaIn schema table count → count ≤ 4 → Laid (schemaOf schema) 0 (replicate 64 0)
+laid-4 schema s h = laid-none (schemaOf schema) 64 (omega (arith, s .counted))
+
 pub laid-16 : (schema : List ℕ) {table : List ℕ} {count : ℕ} → SchemaIn schema table count → count ≤ 16 → Laid (schemaOf schema) 0 (replicate 256 0)
 laid-16 schema s h = laid-none (schemaOf schema) 256 (omega (arith, s .counted))
 

@@ -1,6 +1,6 @@
 -- What the reader's functions answer, and the index that they fill.
 -- For the contracts of functions that no other crate calls.
-use Prim.Native.Nat.{ℕ, _+_, _-_, _*_, _≤_}
+use Prim.Native.Nat.{ℕ, _+_, _-_, _≤_}
 use mathlib.Core.Path.{_≡_}
 use mathlib.Core.Bool.{Bool, true}
 use mathlib.Core.List.{List}
@@ -10,7 +10,7 @@ use Rattle.fields.specs.declared.Step.{Step}
 use Rattle.fields.specs.declared.Step.the-variants.{Next, Bad}
 use Rattle.schema.specs.Schema.{Node, schemaOf}
 use Rattle.policies.specs.Policies.{Rule, Policy, Head, rule, rules}
-use Rattle.policies.specs.Index.{fillRules, fillPolicies}
+use Rattle.policies.specs.Index.{indexSlots, fillRules, fillPolicies}
 use Rattle.policy_reader.specs.declared.HeadRead.{HeadRead}
 use Rattle.policy_reader.specs.declared.HeadRead.the-variants.{Found, NoHead}
 use Rattle.policy_reader.specs.declared.RuleRead.{RuleRead}
@@ -25,7 +25,7 @@ headIn (NoHead n o) = bad n o
 
 -- the index t has a place for each policy and each node of the schema file s
 pub record Long (s t : List ℕ) : Type 0 where
-  pub long : 16 + 16 * length (schemaOf s) ≤ length t
+  pub long : indexSlots (length (schemaOf s)) ≤ length t
 
 -- a PN's node and the position after it
 abbrev pub ruleRead : Got Rule → RuleRead

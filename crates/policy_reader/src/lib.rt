@@ -7,14 +7,28 @@ ghost use Rattle.fields.specs.Reading.{be};
 ghost use Rattle.fields.specs.Answers.{stepOf};
 ghost use Rattle.schema.specs.Schema.{schemaOf, nodeAt, variableAt};
 ghost use Rattle.schema.specs.Table.{NodeIn};
-ghost use Rattle.policies.specs.Policies.{ruleOf, rule, head, policy, policies};
+ghost use Rattle.policies.specs.Policies.{ruleOf, rule, head, policy, mostPolicies, policies};
 ghost use Rattle.policies.specs.Index.{fillPolicy, SchemaIn, IndexRoom};
-ghost use Rattle.policy_reader.specs.Body.{mostOf, Laid, Looking, noneOver};
+ghost use Rattle.policy_reader.specs.Body.{mostOf, layoutSlot, Laid, Looking, noneOver};
 ghost use Rattle.policy_reader.specs.Runs.{headIn, ruleRead, Expected, InRow, End, leftOf, outcome, runOf, fileOutcome, fileRun, Long};
 ghost use Rattle.policy_reader.specs.Answers.{Told};
 use fields::Field;
 use fields::Step;
+use nodes::FEW_NODES;
+use nodes::FEWEST_NODES;
+use policies::MASK_WIDTH;
+use policies::MOST_POLICIES;
+use policies::RANGE_WIDTH;
+use schema::MOST_NODES;
 use schema::Variable;
+
+// The slots of a node in the layout: its shape's, one that is free, then two for each condition; rounded up.
+const LAYOUT_SLOTS: usize = 16;
+
+// The bytes of a condition, as the layout adds them up.
+const RANGE: u32 = RANGE_WIDTH as u32;
+
+const MASK: u32 = MASK_WIDTH as u32;
 
 // A policy's head and the position after it, or a breach.
 enum HeadRead {
@@ -164,17 +178,17 @@ fn lay_out(schema: &[u8], table: &[usize], n: usize, layout: &mut [u32])
     let mut k: usize = 0;
     while k < v {
         let most = most_of(schema, table, n, k);
-        put_pair(layout, 2 + 16 * n + 2 * k, w, most);
+        put_pair(layout, 2 + LAYOUT_SLOTS * n + 2 * k, w, most);
         if nodes::is_number(schema, table, n, k) {
-            w += 8;
+            w += RANGE;
             k += 1;
         } else {
-            w += 4;
+            w += MASK;
             k += 1;
             f = k as u32;
         }
     }
-    layout[16 * n] = 8 * w + f;
+    layout[LAYOUT_SLOTS * n] = 8 * w + f;
 }
 
 // The layout of all nodes.
@@ -198,8 +212,8 @@ fn none_over(layout: &[u32], n: usize, looks: usize, b: &[u8], from: usize) -> b
     let mut k = looks;
     while 0 < k {
         k -= 1;
-        let at = layout[2 + 16 * n + 2 * k] as usize;
-        let most = layout[2 + 16 * n + 2 * k + 1];
+        let at = layout[2 + LAYOUT_SLOTS * n + 2 * k] as usize;
+        let most = layout[2 + LAYOUT_SLOTS * n + 2 * k + 1];
         if most < fields::u32_at(b, from + at) {
             return false;
         }
@@ -227,7 +241,7 @@ fn is_marked(b: &[u8], at: usize, m: &[u8; 2]) -> bool
 fn is_expected(schema: &[u8], layout: &[u32], n: usize, shape: u32, b: &[u8], at: usize) -> bool
     requires { ⌜ Laid (schemaOf (now schema)) (length (schemaOf (now schema))) (now layout) ⌝ }
     requires { ⌜ n < length (schemaOf (now schema)) ⌝ }
-    requires { ⌜ shape ≡ getD (now layout) (16 * n) 0 ⌝ }
+    requires { ⌜ shape ≡ getD (now layout) (layoutSlot n) 0 ⌝ }
     requires { ⌜ at ≤ length (now b) ⌝ }
     ensures { λ r. ⌜ Expected (schemaOf (now (schema .entry))) (now (b .entry)) n at (at + (3 + shape / 8)) r ⌝ }
 {
@@ -258,16 +272,16 @@ fn read_expected(
     requires { ⌜ from .low ≤ end ⌝ }
     requires { ⌜ end ≤ length (schemaOf (now schema)) ⌝ }
     requires { ⌜ from .at ≤ length (now b) ⌝ }
-    requires { ⌜ j < 16 ⌝ }
+    requires { ⌜ j < mostPolicies ⌝ }
     requires { ⌜ Long (now schema) (now index) ⌝ }
     ensures { λ r. ⌜ InRow (schemaOf (now (schema .entry))) (now (b .entry)) j (from .low) (from .at) (now (index .entry)) end (r .low) (r .at) (now (index .exit)) ⌝ }
 {
     let mut low = from.low;
     let mut at = from.at;
     while low < end {
-        let shape = layout[16 * low];
+        let shape = layout[LAYOUT_SLOTS * low];
         if is_expected(schema, layout, low, shape, b, at) {
-            index[16 + 16 * low + j] = at + 3;
+            index[MOST_POLICIES + MOST_POLICIES * low + j] = at + 3;
             at += 3 + (shape / 8) as usize;
             low += 1;
         } else {
@@ -291,7 +305,7 @@ fn read_body(
     requires { ⌜ from ≤ length (now b) ⌝ }
     ensures { λ r. ⌜ r ≡ stepOf (ruleOf (now (b .entry)) (nodeAt (schemaOf (now (schema .entry))) n) n from) ⌝ }
 {
-    let shape = layout[16 * n];
+    let shape = layout[LAYOUT_SLOTS * n];
     let width = (shape / 8) as usize;
     if width <= b.len() - from {
         if none_over(layout, n, (shape % 8) as usize, b, from) {
@@ -368,7 +382,7 @@ fn read_rules(
     requires { ⌜ SchemaIn (now schema) (now table) count ⌝ }
     requires { ⌜ Laid (schemaOf (now schema)) (length (schemaOf (now schema))) (now layout) ⌝ }
     requires { ⌜ from ≤ length (now b) ⌝ }
-    requires { ⌜ j < 16 ⌝ }
+    requires { ⌜ j < mostPolicies ⌝ }
     requires { ⌜ Long (now schema) (now index) ⌝ }
     ensures { λ r. ⌜ outcome r (now (index .exit)) ≡ leftOf (schemaOf (now (schema .entry))) (now (b .entry)) j n 0 from (now (index .entry)) ⌝ }
 {
@@ -386,7 +400,7 @@ fn read_rules(
                 return Step::Bad { number, offset };
             }
             RuleRead::Named { node, next } => {
-                index[16 + 16 * node + j] = row.at + 3;
+                index[MOST_POLICIES + MOST_POLICIES * node + j] = row.at + 3;
                 row.low = node + 1;
                 row.at = next;
                 left -= 1;
@@ -408,7 +422,7 @@ fn read_policy(
 ) -> Step
     requires { ⌜ SchemaIn (now schema) (now table) count ⌝ }
     requires { ⌜ Laid (schemaOf (now schema)) count (now layout) ⌝ }
-    requires { ⌜ j < 16 ⌝ }
+    requires { ⌜ j < mostPolicies ⌝ }
     requires { ⌜ head ≤ length (now p) ⌝ }
     requires { ⌜ Long (now schema) (now index) ⌝ }
     ensures { λ r. ⌜ outcome r (now (index .exit)) ≡ runOf (fillPolicy j head) (policy (schemaOf (now (schema .entry))) (drop head (now (p .entry)))) (now (index .entry)) ⌝ }
@@ -444,7 +458,7 @@ fn read_file(
     let mut j: usize = 0;
     let mut at: usize = 0;
     while at < p.len() {
-        if j == 16 {
+        if j == MOST_POLICIES {
             return PoliciesRead::Refused {
                 number: 8,
                 offset: at,
@@ -514,10 +528,14 @@ pub fn read_policies(
     requires { ⌜ IndexRoom (now schema) (now index) ⌝ }
     ensures { λ r. ⌜ Told (now (schema .entry)) (now (p .entry)) r (now (index .exit)) ⌝ }
 {
-    if count <= 16 {
-        let mut layout = [0u32; 256];
+    if count <= FEWEST_NODES {
+        let mut layout = [0u32; LAYOUT_SLOTS * FEWEST_NODES];
         return read_by_layout(schema, table, &mut layout, count, p, index);
     }
-    let mut layout = [0u32; 1024];
+    if count <= FEW_NODES {
+        let mut layout = [0u32; LAYOUT_SLOTS * FEW_NODES];
+        return read_by_layout(schema, table, &mut layout, count, p, index);
+    }
+    let mut layout = [0u32; LAYOUT_SLOTS * MOST_NODES];
     read_by_layout(schema, table, &mut layout, count, p, index)
 }

@@ -11,16 +11,15 @@ use lib.Signed.{leZ, mag}
 use mir.Val.{toZ, ofZ}
 use mir.ValLaws.{toZ-ofZ}
 use mir.Syntax.{w32}
-use Rattle.fields.specs.Reading.{Got, got, part, whole, field, signed}
-use Rattle.fields.specs.Answers.{fieldOf, signedOf, stepOf, judged, success, refusal}
-use Rattle.fields.specs.declared.Answer.{Answer}
+use Rattle.fields.specs.Reading.{got, part, whole, field, signed}
+use Rattle.fields.specs.Answers.{fieldOf, signedOf, stepOf}
 use Rattle.fields.specs.declared.Field.{Field}
 use Rattle.fields.specs.declared.Field.the-variants.{Value}
 use Rattle.fields.specs.declared.SignedField.{SignedField}
 use Rattle.fields.specs.declared.SignedField.the-variants.{Signed, NoSigned}
 use Rattle.fields.specs.declared.Step.{Step}
 use Rattle.fields.specs.declared.Step.the-variants.{Next, Bad}
-use Rattle.fields.proofs.Reading.{field-ok, took, stepped, stopped, told, untold}
+use Rattle.fields.proofs.Reading.{field-ok, took, told, untold}
 use Rattle.fields.proofs.Loops.{many-more, many-done, many-stop, many-turn}
 use Rattle.fields.proofs.Tests.{and-yes}
 use Rattle.schema.specs.Schema.{number, listed, variable, variables, successors, node, nodes}
@@ -113,12 +112,3 @@ module _ (s : List ℕ) (count k own p : ℕ) {f X : Step} where
 pub nodes-done : (s : List ℕ) (count k own p : ℕ) {X : Step} → stepOf (nodes s count k own p) ≡ X → k ≤ 0 → Next p ≡ X
 unfolding nodes
 nodes-done s count k own p i h = many-done (node s count) (λ own _. own + 1) k own p i h
-
--- the answer of the whole file
-pub check-ok : {A : Type 0} (g : Got A) {f : Step} {q : ℕ} {r : Answer} → f ≡ stepOf g → f ≡ Next q → r ≡ success 0 → r ≡ judged 1 g (λ _. success 0)
-unfolding judged
-check-ok g e h z = rw (stepped g e h .1) z
-
-pub check-bad : {A : Type 0} (g : Got A) {f : Step} {n o : ℕ} {r : Answer} → f ≡ stepOf g → f ≡ Bad n o → r ≡ refusal n 1 o → r ≡ judged 1 g (λ _. success 0)
-unfolding judged
-check-bad g e h z = rw (stopped g e h) z

@@ -79,11 +79,15 @@ body s count p =
     part (nodes s count count 0 p) λ g p.
     ended s g p
 
--- 'one SH: node count u8, 1 to 64'
+-- 'node count u8, 1 to 64'
+abbrev pub mostNodes : ℕ
+mostNodes = 64
+
+-- 'one SH'
 unfoldable pub schema : List ℕ → Got (List Node)
 schema s =
     part (mark SH s 0) λ _ p.
-    field 1 3 (λ count. ltb 0 count && leb count 64) s p λ count p.
+    field 1 3 (λ count. ltb 0 count && leb count mostNodes) s p λ count p.
     body s count p
 
 -- the nodes of a file: none where it is refused

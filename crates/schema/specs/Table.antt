@@ -5,7 +5,7 @@ use mathlib.Core.List.{List, [], _∷_}
 use mathlib.Core.Bool.{cond}
 use lib.Dec.{eqb}
 use lib.ListN.{length, getD, set, replicate}
-use Rattle.schema.specs.Schema.{Node, schemaOf, nodeAt, variables}
+use Rattle.schema.specs.Schema.{Node, mostNodes, schemaOf, nodeAt, variables}
 use Rattle.fields.specs.Reading.{Got, got, bad}
 use Rattle.schema.specs.declared.Variable.{Variable}
 use Rattle.schema.specs.declared.Variable.the-variants.{Number, Listed}
@@ -26,17 +26,24 @@ bodyOf x = 5 + length (x .successors)
 unfoldable pub nodeWidth : Node → ℕ
 nodeWidth x = bodyOf x + variablesWidth (x .variables)
 
--- place 5 n + 1 + k of the table: where variable k of node n begins
+-- the slots of a node in the table: where its record begins, then where each of its four variables does
+abbrev pub recordSlot : ℕ → ℕ
+recordSlot n = 5 * n
+
+abbrev pub variableSlot : ℕ → ℕ → ℕ
+variableSlot n k = recordSlot n + 1 + k
+
+-- where the variables of node n, from k on, begin
 unfoldable pub fillVariables : ℕ → ℕ → ℕ → List Variable → List ℕ → List ℕ
 fillVariables n k p [] t = t
-fillVariables n k p (v ∷ vs) t = fillVariables n (k + 1) (p + variableWidth v) vs (set t (5 * n + 1 + k) p)
+fillVariables n k p (v ∷ vs) t = fillVariables n (k + 1) (p + variableWidth v) vs (set t (variableSlot n k) p)
 
--- place 5 n of the table: where the record of node n begins
+-- where the records of the nodes from n on begin
 unfoldable pub fillNodes : ℕ → ℕ → List Node → List ℕ → List ℕ
 fillNodes n p [] t = t
-fillNodes n p (x ∷ xs) t = fillNodes (n + 1) (p + nodeWidth x) xs (fillVariables n 0 (p + bodyOf x) (x .variables) (set t (5 * n) p))
+fillNodes n p (x ∷ xs) t = fillNodes (n + 1) (p + nodeWidth x) xs (fillVariables n 0 (p + bodyOf x) (x .variables) (set t (recordSlot n) p))
 
--- a table of m places
+-- a table of m slots
 unfoldable pub tableOf : ℕ → List Node → List ℕ
 tableOf m g = fillNodes 0 3 g (replicate m 0)
 
@@ -47,12 +54,12 @@ pub record Accepted (s : List ℕ) : Type 0 where
 -- t is the table of the file s; it may be longer than the nodes need
 pub record Tabled (s t : List ℕ) : Type 0 where
   pub filled : t ≡ tableOf (length t) (schemaOf s)
-  pub long : 5 * length (schemaOf s) ≤ length t
+  pub long : recordSlot (length (schemaOf s)) ≤ length t
 
 -- room for the table of the file s, with nothing in it
 pub record Room (s t : List ℕ) : Type 0 where
   pub blank : t ≡ replicate (length t) 0
-  pub long : 5 * length (schemaOf s) ≤ length t
+  pub long : recordSlot (length (schemaOf s)) ≤ length t
 
 -- t is the table of the file s, and n one of its nodes
 pub record NodeIn (s t : List ℕ) (n : ℕ) : Type 0 where
@@ -82,9 +89,9 @@ variablesIn (bad n o) = []
 
 -- v variables of node n are read from p on, and the table has places for them
 pub record Filling (s : List ℕ) (n v p : ℕ) (t : List ℕ) : Type 0 where
-  pub small : n < 64
+  pub small : n < mostNodes
   pub few : v ≤ 4
-  pub long : 5 * n + 1 + v ≤ length t
+  pub long : variableSlot n v ≤ length t
   pub end : ℕ
   pub read : variables s v p ≡ got (variablesIn (variables s v p)) end
 

@@ -1,12 +1,25 @@
 // The reader of schema files.
 ghost use mathlib.Core.Path.{_≡_};
 ghost use Prim.Native.Nat.{_≤_};
-ghost use Rattle.fields.specs.Answers.{stepOf, judged, success};
-ghost use Rattle.schema.specs.Schema.{number, listed, variable, variables, variablesOf, successors, links, node, nodes, body, schema};
-use fields::Answer;
+ghost use Rattle.fields.specs.Answers.{stepOf};
+ghost use Rattle.schema.specs.Schema.{number, listed, variable, variables, variablesOf, successors, links, node, nodes, body, mostNodes, schema};
 use fields::Field;
 use fields::SignedField;
 use fields::Step;
+
+// A schema has at most so many nodes, a node at most so many successors and variables.
+const NODES: u32 = 64;
+
+const SUCCESSORS: u32 = 8;
+
+const VARIABLES: u32 = 4;
+
+// The same, for the tables of what is made of a schema.
+pub const MOST_NODES: usize = NODES as usize;
+
+pub const MOST_SUCCESSORS: usize = SUCCESSORS as usize;
+
+pub const MOST_VARIABLES: usize = VARIABLES as usize;
 
 // A variable of a node.
 pub enum Variable {
@@ -105,7 +118,7 @@ fn read_variables_of(s: &[u8], at: usize) -> Step
     match reading::read_u8(s, at) {
         Field::Cut { number, offset } => Step::Bad { number, offset },
         Field::Value { value, next } => {
-            if 4 < value {
+            if VARIABLES < value {
                 return Step::Bad {
                     number: 6,
                     offset: at,
@@ -155,7 +168,7 @@ fn read_links(s: &[u8], count: u32, own: u32, kind: u32, at: usize) -> Step
     match reading::read_u8(s, at) {
         Field::Cut { number, offset } => Step::Bad { number, offset },
         Field::Value { value, next } => {
-            if 8 < value {
+            if SUCCESSORS < value {
                 return Step::Bad {
                     number: 4,
                     offset: at,
@@ -202,7 +215,7 @@ fn read_node(s: &[u8], count: u32, own: u32, from: usize) -> Step
 }
 
 fn read_nodes(s: &[u8], count: u32, from: usize) -> Step
-    requires { ⌜ count ≤ 64 ⌝ }
+    requires { ⌜ count ≤ mostNodes ⌝ }
     ensures { λ r. ⌜ r ≡ stepOf (nodes (now (s .entry)) count count 0 from) ⌝ }
 {
     let mut left = count;
@@ -224,7 +237,7 @@ fn read_nodes(s: &[u8], count: u32, from: usize) -> Step
 }
 
 fn read_body(s: &[u8], count: u32, from: usize) -> Step
-    requires { ⌜ count ≤ 64 ⌝ }
+    requires { ⌜ count ≤ mostNodes ⌝ }
     ensures { λ r. ⌜ r ≡ stepOf (body (now (s .entry)) count from) ⌝ }
 {
     match read_nodes(s, count, from) {
@@ -256,7 +269,7 @@ pub fn read_schema(s: &[u8]) -> Step
                         offset: at,
                     };
                 }
-                if 64 < value {
+                if NODES < value {
                     return Step::Bad {
                         number: 3,
                         offset: at,
@@ -264,26 +277,6 @@ pub fn read_schema(s: &[u8]) -> Step
                 }
                 read_body(s, value, next)
             }
-        },
-    }
-}
-
-// The answer for a whole schema file.
-pub fn check(s: &[u8]) -> Answer
-    ensures { λ r. ⌜ r ≡ judged 1 (schema (now (s .entry))) (λ _. success 0) ⌝ }
-{
-    match read_schema(s) {
-        Step::Next { at: _ } => Answer {
-            number: 0,
-            file: 0,
-            offset: 0,
-            value: 0,
-        },
-        Step::Bad { number, offset } => Answer {
-            number,
-            file: 1,
-            offset,
-            value: 0,
         },
     }
 }

@@ -5,29 +5,73 @@ ghost use lib.ListN.{length};
 ghost use Rattle.fields.specs.Writing.{Wrote};
 ghost use Rattle.schema.specs.Schema.{schemaOf, nodeAt};
 ghost use Rattle.schema.specs.Table.{Tabled, Accepted, NodeIn};
-ghost use Rattle.instances.specs.File.{valueOf, encodeValue, encodeValues, encodeEntry, encode};
+ghost use Rattle.instances.specs.File.{valueWidth, valueOf, encodeValue, encodeValues, encodeEntry, encode};
 ghost use Rattle.instances.specs.Plan.{planned, valuesFrom, planOf, BitsRoom};
-ghost use Rattle.writer.specs.Writer.{WroteEntries};
+ghost use Rattle.lookup.specs.Lookup.{valuesWidth};
+ghost use Rattle.writer.specs.Writer.{nodesOf, MeasuredFor, WroteEntries};
+use instances::ENTRY_WIDTH;
+use instances::HEAD_WIDTH;
+use instances::LISTED_WIDTH;
+use instances::NUMBER_WIDTH;
+use schema::MOST_NODES;
+use schema::MOST_VARIABLES;
 use schema::Variable;
 
-// How many entries were put, and the place after them.
+// Which nodes have an entry, as bits, and how long the file is.
+pub struct Measured {
+    pub nodes: u64,
+    pub length: usize,
+}
+
+// How many entries were put, and the offset after them.
 struct EntriesPut {
     count: u8,
     end: usize,
 }
 
+fn widened(x: u8) -> usize
+    ensures { λ r. ⌜ r ≡ x ⌝ }
+{
+    x as usize
+}
+
+// Which nodes the choices reach, and how long the file of their instance is, whatever its values.
+// A wrong choice may reach a node that was passed or that there is not: such a node has no entry.
+pub fn measure(schema: &[u8], table: &[usize], choices: &[u8; MOST_NODES]) -> Measured
+    requires { ⌜ Accepted (now schema) ⌝ }
+    requires { ⌜ Tabled (now schema) (now table) ⌝ }
+    ensures { λ r. ⌜ MeasuredFor (schemaOf (now (schema .entry))) (now (choices .entry)) r ⌝ }
+{
+    let count = nodes::count_of(schema);
+    let mut n: usize = 0;
+    let mut reached: u64 = 1;
+    let mut nodes: u64 = 0;
+    let mut length = HEAD_WIDTH;
+    while n < count {
+        if numbers::has(reached, n) {
+            length = length + ENTRY_WIDTH + lookup::values_width(schema, table, n);
+            reached = instances::reach(schema, table, n, widened(choices[n]), reached);
+            nodes = numbers::with(nodes, n);
+            n += 1;
+        } else {
+            n += 1;
+        }
+    }
+    Measured { nodes, length }
+}
+
 fn put_value(v: Variable, u: u32, out: &mut [u8], at: usize) -> usize
-    requires { ⌜ at + 4 ≤ length (now out) ⌝ }
+    requires { ⌜ at + valueWidth v ≤ length (now out) ⌝ }
     ensures { λ r. ⌜ Wrote (now (out .entry)) at (encodeValue v (valueOf v u)) (now (out .exit)) r ⌝ }
 {
     match v {
         Variable::Number { lo: _, hi: _ } => {
             writing::put_u32(out, at, u);
-            at + 4
+            at + NUMBER_WIDTH
         }
         Variable::Listed { size: _ } => {
             writing::put_u8(out, at, (u % 256) as u8);
-            at + 1
+            at + LISTED_WIDTH
         }
     }
 }
@@ -42,7 +86,7 @@ fn put_values(
 ) -> usize
     requires { ⌜ NodeIn (now schema) (now table) n ⌝ }
     requires { ⌜ BitsRoom (now schema) (now bits) ⌝ }
-    requires { ⌜ from + 16 ≤ length (now out) ⌝ }
+    requires { ⌜ from + valuesWidth (nodeAt (schemaOf (now schema)) n .variables) ≤ length (now out) ⌝ }
     ensures { λ r. ⌜ Wrote (now (out .entry)) from (encodeValues (nodeAt (schemaOf (now (schema .entry))) n .variables) (valuesFrom (nodeAt (schemaOf (now (schema .entry))) n .variables) (now (bits .entry)) (4 * n))) (now (out .exit)) r ⌝ }
 {
     let count = nodes::variable_count(schema, table, n);
@@ -50,7 +94,7 @@ fn put_values(
     let mut at = from;
     while k < count {
         let v = nodes::variable_of(schema, table, n, k);
-        let u = bits[4 * n + k];
+        let u = bits[MOST_VARIABLES * n + k];
         at = put_value(v, u, out, at);
         k += 1;
     }
@@ -62,75 +106,67 @@ fn put_entry(
     schema: &[u8],
     table: &[usize],
     n: usize,
-    choices: &[u8; 64],
+    choices: &[u8; MOST_NODES],
     bits: &[u32],
     out: &mut [u8],
     from: usize,
 ) -> usize
     requires { ⌜ NodeIn (now schema) (now table) n ⌝ }
     requires { ⌜ BitsRoom (now schema) (now bits) ⌝ }
-    requires { ⌜ from + 20 ≤ length (now out) ⌝ }
+    requires { ⌜ from + 4 + valuesWidth (nodeAt (schemaOf (now schema)) n .variables) ≤ length (now out) ⌝ }
     ensures { λ r. ⌜ Wrote (now (out .entry)) from (encodeEntry (schemaOf (now (schema .entry))) (planOf (schemaOf (now (schema .entry))) (now (choices .entry)) (now (bits .entry)) n)) (now (out .exit)) r ⌝ }
 {
     writing::put_mark(out, from, b"IN");
     writing::put_u8(out, from + 2, n as u8);
     writing::put_u8(out, from + 3, choices[n]);
-    put_values(schema, table, n, bits, out, from + 4)
+    put_values(schema, table, n, bits, out, from + ENTRY_WIDTH)
 }
 
-fn widened(x: u8) -> usize
-    ensures { λ r. ⌜ r ≡ x ⌝ }
-{
-    x as usize
-}
-
-// The entries of the reached nodes from byte 3 on; the reached nodes are the bits of a number.
+// The entries of these nodes from byte 3 on, the lowest first.
 fn put_entries(
     schema: &[u8],
     table: &[usize],
-    choices: &[u8; 64],
+    nodes: u64,
+    choices: &[u8; MOST_NODES],
     bits: &[u32],
     out: &mut [u8],
 ) -> EntriesPut
     requires { ⌜ Accepted (now schema) ⌝ }
     requires { ⌜ Tabled (now schema) (now table) ⌝ }
     requires { ⌜ BitsRoom (now schema) (now bits) ⌝ }
-    requires { ⌜ 1283 ≤ length (now out) ⌝ }
+    requires { ⌜ nodes ≡ nodesOf (planned (schemaOf (now schema)) (planOf (schemaOf (now schema)) (now choices) (now bits))) ⌝ }
+    requires { ⌜ length (encode (schemaOf (now schema)) (planned (schemaOf (now schema)) (planOf (schemaOf (now schema)) (now choices) (now bits)))) ≤ length (now out) ⌝ }
     ensures { λ r. ⌜ WroteEntries (schemaOf (now (schema .entry))) (planned (schemaOf (now (schema .entry))) (planOf (schemaOf (now (schema .entry))) (now (choices .entry)) (now (bits .entry)))) (now (out .entry)) (now (out .exit)) r ⌝ }
 {
-    let nodes = nodes::count_of(schema);
-    let mut n: usize = 0;
-    let mut reached: u64 = 1;
-    let mut at: usize = 3;
+    let mut left = nodes;
+    let mut at = HEAD_WIDTH;
     let mut count: u8 = 0;
-    while n < nodes {
-        if numbers::has(reached, n) {
-            at = put_entry(schema, table, n, choices, bits, out, at);
-            reached = instances::reach(schema, table, n, widened(choices[n]), reached);
-            count += 1;
-            n += 1;
-        } else {
-            n += 1;
-        }
+    while 0 < left {
+        let n = numbers::lowest(left);
+        at = put_entry(schema, table, n, choices, bits, out, at);
+        left = numbers::turned_bit(left, n);
+        count += 1;
     }
     EntriesPut { count, end: at }
 }
 
-// The file of the instance that the arrays hold, at the start of a buffer that is long enough for any.
+// The file of the plan that the arrays hold, whose nodes are these, at the start of a buffer that has room for it.
 pub fn write_planned(
     schema: &[u8],
     table: &[usize],
-    choices: &[u8; 64],
+    nodes: u64,
+    choices: &[u8; MOST_NODES],
     bits: &[u32],
     out: &mut [u8],
 ) -> usize
     requires { ⌜ Accepted (now schema) ⌝ }
     requires { ⌜ Tabled (now schema) (now table) ⌝ }
     requires { ⌜ BitsRoom (now schema) (now bits) ⌝ }
-    requires { ⌜ 1283 ≤ length (now out) ⌝ }
+    requires { ⌜ nodes ≡ nodesOf (planned (schemaOf (now schema)) (planOf (schemaOf (now schema)) (now choices) (now bits))) ⌝ }
+    requires { ⌜ length (encode (schemaOf (now schema)) (planned (schemaOf (now schema)) (planOf (schemaOf (now schema)) (now choices) (now bits)))) ≤ length (now out) ⌝ }
     ensures { λ r. ⌜ Wrote (now (out .entry)) 0 (encode (schemaOf (now (schema .entry))) (planned (schemaOf (now (schema .entry))) (planOf (schemaOf (now (schema .entry))) (now (choices .entry)) (now (bits .entry))))) (now (out .exit)) r ⌝ }
 {
-    let put = put_entries(schema, table, choices, bits, out);
+    let put = put_entries(schema, table, nodes, choices, bits, out);
     writing::put_mark(out, 0, b"IH");
     writing::put_u8(out, 2, put.count);
     put.end

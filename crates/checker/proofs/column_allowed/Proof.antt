@@ -3,8 +3,6 @@
 use native.Mathlib.Omega.{arith}
 use borrow.Author.Needs.{needs}
 use Prim.Native.Nat.{_-_}
-use Rattle.schema.specs.Schema.{schemaOf}
-use Rattle.policies.specs.Policies.{policiesOf}
 use Rattle.policies.specs.Pass.{selected}
 use Rattle.policies.proofs.Above.{selected-few, selected-in, selected-row}
 use Rattle.checker.proofs.Choices.{Asking, asking-none, asking-no, asking-on, asking-done}

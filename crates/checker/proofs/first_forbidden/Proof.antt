@@ -1,7 +1,6 @@
 -- The entries from here on are left to judge.
 -- Rests on the laws of the loop, in Entries.
 use Rattle.schema.specs.Schema.{schemaOf}
-use Rattle.policies.specs.Policies.{policiesOf}
 use Rattle.policies.specs.Pass.{selected}
 use Rattle.lookup.specs.Lookup.{instanceOf}
 use Rattle.model.specs.Comparing.{forbidden}

@@ -4,7 +4,6 @@ use native.Mathlib.Omega.{arith}
 use borrow.Author.Needs.{needs}
 use Prim.Native.Nat.{_-_}
 use Rattle.schema.specs.Schema.{schemaOf, nodeAt}
-use Rattle.policies.specs.Policies.{policiesOf}
 use Rattle.policies.specs.Pass.{selected}
 use Rattle.instances.specs.File.{values}
 use Rattle.model.specs.Comparing.{forbiddenValue}

@@ -4,7 +4,6 @@ use native.Mathlib.Omega.{arith}
 use borrow.Author.Needs.{needs}
 use Prim.Native.Nat.{_-_}
 use Rattle.schema.specs.Schema.{schemaOf}
-use Rattle.policies.specs.Policies.{policiesOf}
 use Rattle.policies.specs.Pass.{selected}
 use Rattle.comparison.proofs.Better.{rows-few, row-in, row-few, Deciding, deciding-start, better-less, better-more, better-on, better-done}
 use Rattle.comparison.proofs.is_better.Statement.{statement}

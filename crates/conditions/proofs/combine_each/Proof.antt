@@ -2,18 +2,18 @@
 -- Rests on the laws of a turn, in Combining.
 use Prim.Native.Nat.{_-_}
 use Rattle.schema.specs.Schema.{schemaOf}
-use Rattle.policies.specs.Policies.{policiesOf}
-use Rattle.policies.specs.Pass.{selected}
-use Rattle.conditions.proofs.Combining.{Combining, combining-none, turn-below, size-small, range-place, mask-place, combining-mask, combining-range, combining-done}
+use lib.ListN.{take}
+use Rattle.conditions.specs.Rules.{rulesAt}
+use Rattle.conditions.proofs.Combining.{Combining, combining-init, turn-below, size-small, range-bytes, mask-bytes, combining-mask, combining-range, combining-exit}
 use borrow.Author.Needs.{needs}
 use Rattle.conditions.proofs.combine_each.Statement.{statement}
 use Rattle.conditions.proofs.combine_each.Tie as tie
 
 abbrev Inv-loop : tie.InvT-loop
-Inv-loop schema table p places rows list listed n v lo₀ hi₀ mask₀ at₀ k₀ lo hi mask at k = Combining (schemaOf schema) (selected schema p list listed) n k at lo hi mask
+Inv-loop schema table p offsets rows n v lo₀ hi₀ mask₀ skip₀ k₀ lo hi mask skip k = Combining (schemaOf schema) (rulesAt (schemaOf schema) p n (take rows offsets)) n k skip lo hi mask
 
 abbrev μ-loop : tie.MeasureT-loop
-μ-loop schema table p places rows list listed n v lo₀ hi₀ mask₀ at₀ k₀ lo hi mask at k = v - k
+μ-loop schema table p offsets rows n v lo₀ hi₀ mask₀ skip₀ k₀ lo hi mask skip k = v - k
 
 variable-count-requires : tie.Need-variable-count-requires Inv-loop μ-loop
 variable-count-requires c κs = search needs
@@ -22,7 +22,7 @@ rank-count-requires : tie.Need-rank-count-requires Inv-loop μ-loop
 rank-count-requires c κs = search needs
 
 loop-holds : tie.Need-loop-holds Inv-loop μ-loop
-loop-holds c = search combining-none
+loop-holds c = search combining-init
 
 variable-of-requires : tie.Need-variable-of-requires Inv-loop μ-loop
 variable-of-requires c κs = search (turn-below, needs)
@@ -31,7 +31,7 @@ enum-known-l : tie.Need-enum-known-l Inv-loop μ-loop
 enum-known-l c = search needs
 
 narrow-range-requires : tie.Need-narrow-range-requires Inv-loop μ-loop
-narrow-range-requires c κs = search (range-place, needs)
+narrow-range-requires c κs = search range-bytes
 
 mul-lo : tie.Need-mul-lo Inv-loop μ-loop
 mul-lo c = search needs
@@ -45,8 +45,8 @@ mul-hi c = search needs
 array-set-from-hi : tie.Need-array-set-from-hi Inv-loop μ-loop
 array-set-from-hi c = search needs
 
-add-at : tie.Need-add-at Inv-loop μ-loop
-add-at c = search needs
+add-skip : tie.Need-add-skip Inv-loop μ-loop
+add-skip c = search needs
 
 add-k : tie.Need-add-k Inv-loop μ-loop
 add-k c = search needs
@@ -61,7 +61,7 @@ enum-known-size : tie.Need-enum-known-size Inv-loop μ-loop
 enum-known-size c = search needs
 
 narrow-mask-requires : tie.Need-narrow-mask-requires Inv-loop μ-loop
-narrow-mask-requires c κs = (search needs, (search mask-place, search size-small))
+narrow-mask-requires c κs = (search mask-bytes, search size-small)
 
 mul-mask : tie.Need-mul-mask Inv-loop μ-loop
 mul-mask c = search needs
@@ -69,8 +69,8 @@ mul-mask c = search needs
 array-write-mask : tie.Need-array-write-mask Inv-loop μ-loop
 array-write-mask c = search needs
 
-add-at-2 : tie.Need-add-at-2 Inv-loop μ-loop
-add-at-2 c = search needs
+add-skip-2 : tie.Need-add-skip-2 Inv-loop μ-loop
+add-skip-2 c = search needs
 
 add-k-2 : tie.Need-add-k-2 Inv-loop μ-loop
 add-k-2 c = search needs
@@ -82,7 +82,7 @@ loop-again-2 : tie.Need-loop-again-2 Inv-loop μ-loop
 loop-again-2 c = search combining-mask
 
 returns : tie.Need-returns Inv-loop μ-loop
-returns c = search combining-done
+returns c = search combining-exit
 
 pub combine-each-spec : {M : Type 1} → statement M
 combine-each-spec =
@@ -100,7 +100,7 @@ combine-each-spec =
     array-set-from-lo
     mul-hi
     array-set-from-hi
-    add-at
+    add-skip
     add-k
     loop-less
     loop-again
@@ -108,7 +108,7 @@ combine-each-spec =
     narrow-mask-requires
     mul-mask
     array-write-mask
-    add-at-2
+    add-skip-2
     add-k-2
     loop-less-2
     loop-again-2

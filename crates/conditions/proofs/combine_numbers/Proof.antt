@@ -1,17 +1,18 @@
--- The policies from here on are left for each of the four.
+-- The offsets from here on are left for each of the four.
 -- Rests on the laws of a turn, in Numbers.
 use Prim.Native.Nat.{_-_}
+use Rattle.schema.specs.Schema.{schemaOf}
 use Rattle.policies.specs.Policies.{range}
-use Rattle.conditions.proofs.Numbers.{Four, four-none, first-room, next-room, first-fits, next-fits, four-range, four-done}
+use Rattle.conditions.proofs.Numbers.{Four, four-init, first-room, next-room, first-fits, next-fits, four-step, four-exit}
 use borrow.Author.Needs.{needs}
 use Rattle.conditions.proofs.combine_numbers.Statement.{statement}
 use Rattle.conditions.proofs.combine_numbers.Tie as tie
 
 abbrev Inv-loop : tie.InvT-loop
-Inv-loop schema table p places rows list listed n offset w₀ x₀ y₀ z₀ r₀ w x y z r = Four schema p list listed n rows places offset r (range (w .lo) (w .hi)) (range (x .lo) (x .hi)) (range (y .lo) (y .hi)) (range (z .lo) (z .hi))
+Inv-loop schema table p offsets rows n skip w₀ x₀ y₀ z₀ r₀ w x y z r = Four (schemaOf schema) p n rows offsets skip r (range (w .lo) (w .hi)) (range (x .lo) (x .hi)) (range (y .lo) (y .hi)) (range (z .lo) (z .hi))
 
 abbrev μ-loop : tie.MeasureT-loop
-μ-loop schema table p places rows list listed n offset w₀ x₀ y₀ z₀ r₀ w x y z r = rows - r
+μ-loop schema table p offsets rows n skip w₀ x₀ y₀ z₀ r₀ w x y z r = rows - r
 
 rank-count-requires : tie.Need-rank-count-requires Inv-loop μ-loop
 rank-count-requires c κs = search needs
@@ -32,7 +33,7 @@ range-of-requires-4 c κs = search needs
 loop-holds : tie.Need-loop-holds Inv-loop μ-loop
 loop-holds c =
     let start = c .before .before .before .before .before .before .before .before in
-    search (four-none, start .pre, start .good .1 .1 .0)
+    search (four-init, start .pre, start .good .1 .1 .0)
 
 mul-from : tie.Need-mul-from Inv-loop μ-loop
 mul-from c = search needs
@@ -71,10 +72,10 @@ loop-less : tie.Need-loop-less Inv-loop μ-loop
 loop-less c = search needs
 
 loop-again : tie.Need-loop-again Inv-loop μ-loop
-loop-again c = search four-range
+loop-again c = search four-step
 
 returns : tie.Need-returns Inv-loop μ-loop
-returns c = search four-done
+returns c = search four-exit
 
 pub combine-numbers-spec : {M : Type 1} → statement M
 combine-numbers-spec =

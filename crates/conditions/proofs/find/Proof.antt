@@ -1,7 +1,7 @@
 -- The rows from here on are left.
 -- Rests on the laws of a row, in Finding.
 use Prim.Native.Nat.{_-_}
-use Rattle.conditions.proofs.Finding.{Finding, finding-none, finding-same, finding-more, finding-room, finding-done}
+use Rattle.conditions.proofs.Finding.{Finding, finding-init, finding-skip, finding-step, finding-room, finding-exit}
 use Rattle.policies.proofs.Above.{selected-few, selected-in, selected-row}
 use native.Mathlib.Omega.{arith}
 use borrow.Author.Needs.{needs}
@@ -9,13 +9,13 @@ use Rattle.conditions.proofs.find.Statement.{statement}
 use Rattle.conditions.proofs.find.Tie as tie
 
 abbrev Inv-loop : tie.InvT-loop
-Inv-loop schema p index list rows n places₀ m₀ i₀ places m i = Finding index list n rows i places₀ m places
+Inv-loop schema p index list rows n offsets₀ m₀ i₀ offsets m i = Finding index list n rows i offsets₀ m offsets
 
 abbrev μ-loop : tie.MeasureT-loop
-μ-loop schema p index list rows n places₀ m₀ i₀ places m i = rows - i
+μ-loop schema p index list rows n offsets₀ m₀ i₀ offsets m i = rows - i
 
 loop-holds : tie.Need-loop-holds Inv-loop μ-loop
-loop-holds c = search finding-none
+loop-holds c = search finding-init
 
 mul-place-of : tie.Need-mul-place-of Inv-loop μ-loop
 mul-place-of c = omega (arith, selected-few)
@@ -33,13 +33,13 @@ loop-less : tie.Need-loop-less Inv-loop μ-loop
 loop-less c = search needs
 
 loop-again : tie.Need-loop-again Inv-loop μ-loop
-loop-again c = search finding-same
+loop-again c = search finding-skip
 
-mul-places : tie.Need-mul-places Inv-loop μ-loop
-mul-places c = omega (arith, selected-few)
+mul-offsets : tie.Need-mul-offsets Inv-loop μ-loop
+mul-offsets c = omega (arith, selected-few)
 
-element-write-places : tie.Need-element-write-places Inv-loop μ-loop
-element-write-places c = search (finding-room, selected-few)
+element-write-offsets : tie.Need-element-write-offsets Inv-loop μ-loop
+element-write-offsets c = search (finding-room, selected-few)
 
 add-m : tie.Need-add-m Inv-loop μ-loop
 add-m c = search needs
@@ -51,10 +51,10 @@ loop-less-2 : tie.Need-loop-less-2 Inv-loop μ-loop
 loop-less-2 c = search needs
 
 loop-again-2 : tie.Need-loop-again-2 Inv-loop μ-loop
-loop-again-2 c = search (finding-more, selected-few)
+loop-again-2 c = search (finding-step, selected-few)
 
 returns : tie.Need-returns Inv-loop μ-loop
-returns c = search finding-done
+returns c = search finding-exit
 
 pub find-spec : {M : Type 1} → statement M
 find-spec =
@@ -69,8 +69,8 @@ find-spec =
     add-i
     loop-less
     loop-again
-    mul-places
-    element-write-places
+    mul-offsets
+    element-write-offsets
     add-m
     add-i-2
     loop-less-2

@@ -2,7 +2,7 @@
 -- Rests on the laws of the test, in Numbers.
 use Prim.Native.Nat.{_-_}
 use Rattle.schema.specs.Schema.{schemaOf, nodeAt}
-use Rattle.conditions.proofs.Numbers.{Testing, testing-none, testing-other, testing-below, testing-more, testing-bad, testing-done}
+use Rattle.conditions.proofs.Numbers.{Testing, testing-init, testing-other, testing-below, testing-step, testing-bad, testing-exit}
 use borrow.Author.Needs.{needs}
 use Rattle.conditions.proofs.has_four_numbers.Statement.{statement}
 use Rattle.conditions.proofs.has_four_numbers.Tie as tie
@@ -20,7 +20,7 @@ returns : tie.Need-returns Inv-loop μ-loop
 returns c = search testing-other
 
 loop-holds : tie.Need-loop-holds Inv-loop μ-loop
-loop-holds c = search testing-none
+loop-holds c = search testing-init
 
 is-number-requires : tie.Need-is-number-requires Inv-loop μ-loop
 is-number-requires c κs = search (testing-below, needs)
@@ -32,13 +32,13 @@ loop-less : tie.Need-loop-less Inv-loop μ-loop
 loop-less c = search needs
 
 loop-again : tie.Need-loop-again Inv-loop μ-loop
-loop-again c = search testing-more
+loop-again c = search testing-step
 
 returns-2 : tie.Need-returns-2 Inv-loop μ-loop
 returns-2 c = search testing-bad
 
 returns-3 : tie.Need-returns-3 Inv-loop μ-loop
-returns-3 c = search testing-done
+returns-3 c = search testing-exit
 
 pub has-four-numbers-spec : {M : Type 1} → statement M
 has-four-numbers-spec =

@@ -1,23 +1,21 @@
--- The policies from here on are left.
+-- The offsets from here on are left.
 -- Rests on the laws of a turn, in Narrowing.
 use Prim.Native.Nat.{_-_}
-use Rattle.schema.specs.Schema.{schemaOf}
-use Rattle.policies.specs.Policies.{range, policiesOf}
-use Rattle.policies.specs.Pass.{selected}
-use Rattle.conditions.specs.Places.{speaking}
-use Rattle.conditions.proofs.Narrowing.{Narrowing, narrowing-none, range-room, range-fits, narrowing-range, narrowing-bounds}
+use Rattle.policies.specs.Policies.{range}
+use Rattle.conditions.specs.Rules.{rangeAt}
+use Rattle.conditions.proofs.Narrowing.{Narrowing, narrowing-init, condition-room, condition-fits, range-step, range-exit}
 use borrow.Author.Needs.{needs}
 use Rattle.conditions.proofs.narrow_range.Statement.{statement}
 use Rattle.conditions.proofs.narrow_range.Tie as tie
 
 abbrev Inv-loop : tie.InvT-loop
-Inv-loop schema p places rows list listed n k offset least most x₀ r₀ x r = Narrowing (speaking n (selected schema p list listed)) n k (range (x₀ .lo) (x₀ .hi)) r (range (x .lo) (x .hi))
+Inv-loop p offsets rows skip least most x₀ r₀ x r = Narrowing (rangeAt p skip) rows offsets (range (x₀ .lo) (x₀ .hi)) r (range (x .lo) (x .hi))
 
 abbrev μ-loop : tie.MeasureT-loop
-μ-loop schema p places rows list listed n k offset least most x₀ r₀ x r = rows - r
+μ-loop p offsets rows skip least most x₀ r₀ x r = rows - r
 
 loop-holds : tie.Need-loop-holds Inv-loop μ-loop
-loop-holds c = search narrowing-none
+loop-holds c = search narrowing-init
 
 mul-narrow-at : tie.Need-mul-narrow-at Inv-loop μ-loop
 mul-narrow-at c = search needs
@@ -26,10 +24,10 @@ element-copy-out-narrow-at : tie.Need-element-copy-out-narrow-at Inv-loop μ-loo
 element-copy-out-narrow-at c = search needs
 
 add-narrow-at : tie.Need-add-narrow-at Inv-loop μ-loop
-add-narrow-at c = search (range-fits, needs)
+add-narrow-at c = search (condition-fits, needs)
 
 narrow-at-requires : tie.Need-narrow-at-requires Inv-loop μ-loop
-narrow-at-requires c κs = search range-room
+narrow-at-requires c κs = search condition-room
 
 add-r : tie.Need-add-r Inv-loop μ-loop
 add-r c = search needs
@@ -38,10 +36,10 @@ loop-less : tie.Need-loop-less Inv-loop μ-loop
 loop-less c = search needs
 
 loop-again : tie.Need-loop-again Inv-loop μ-loop
-loop-again c = search narrowing-range
+loop-again c = search range-step
 
 returns : tie.Need-returns Inv-loop μ-loop
-returns c = search narrowing-bounds
+returns c = search range-exit
 
 pub narrow-range-spec : {M : Type 1} → statement M
 narrow-range-spec =

@@ -1,39 +1,51 @@
--- The writer's contract keeps the bytes beyond the file; a shorter buffer takes the way round.
--- Rests on write-at-once.
-use Rattle.reconciler.proofs.Calling.{write-at-once}
+-- Each answer of the plan has its own; the writer is given the nodes and a buffer with room for the file.
+-- Rests on what the plan tells of the file, in Writing.
+use Rattle.reconciler.proofs.Writing.{no-instance, plan-nodes, plan-room, plan-short, plan-written}
 use borrow.Author.Needs.{needs}
 use Rattle.reconciler.proofs.write_plan.Statement.{statement}
 use Rattle.reconciler.proofs.write_plan.Tie as tie
 
+enum-told : tie.Need-enum-told
+enum-told c = search needs
+
+refusal-requires : tie.Need-refusal-requires
+refusal-requires c κs = search needs
+
+enum-known-plan : tie.Need-enum-known-plan
+enum-known-plan c = search needs
+
+refusal-requires-2 : tie.Need-refusal-requires-2
+refusal-requires-2 c κs = search needs
+
+returns : tie.Need-returns
+returns c = search plan-short
+
 write-planned-requires : tie.Need-write-planned-requires
-write-planned-requires c κs = search needs
+write-planned-requires c κs = (search needs, (search needs, (search needs, (search plan-nodes, search plan-room))))
+
+success-requires : tie.Need-success-requires
+success-requires c κs = search needs
+
+returns-2 : tie.Need-returns-2
+returns-2 c = search no-instance
 
 same-length : tie.Need-same-length
 same-length c = search needs
 
-returns : tie.Need-returns
-returns c = search write-at-once
-
-slice-aggregate-write-short : tie.Need-slice-aggregate-write-short
-slice-aggregate-write-short c = search needs
-
-write-short-requires : tie.Need-write-short-requires
-write-short-requires c κs = (search needs, (search needs, (search needs, search needs)))
-
-same-length-2 : tie.Need-same-length-2
-same-length-2 c = search needs
-
-returns-2 : tie.Need-returns-2
-returns-2 c = search needs
+returns-3 : tie.Need-returns-3
+returns-3 c = search plan-written
 
 pub write-plan-spec : {M : Type 1} → statement M
 write-plan-spec =
     tie.close
     (tie.spec
-    write-planned-requires
-    same-length
+    enum-told
+    refusal-requires
+    enum-known-plan
+    refusal-requires-2
     returns
-    slice-aggregate-write-short
-    write-short-requires
-    same-length-2
-    returns-2)
+    write-planned-requires
+    success-requires
+    returns-2
+    same-length
+    returns-3)

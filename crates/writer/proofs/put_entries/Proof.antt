@@ -1,75 +1,45 @@
--- The entries so far reach the bits of `reached`; with the entries from node n on put from here, the buffer is what it shall be.
--- Rests on the laws of bits and on a sound schema for the room.
+-- The entries to come are of the nodes that are left; with them put from here, the buffer is what it shall be.
+-- Rests on the ascending nodes of a plan's entries, and on a sound schema for their number.
 use borrow.Author.Needs.{needs}
 use Prim.Native.Nat.{_-_}
 use Rattle.schema.specs.Schema.{schemaOf}
 use Rattle.instances.specs.Plan.{planOf}
-use Rattle.writer.proofs.Writer.{Walking, walk-none, walk-small, walk-room, walk-count, walk-node, walk-put, walk-skip, walk-done}
+use Rattle.writer.proofs.Writer.{PuttingEntries, entries-init, entries-node, entries-room, entries-count, entries-less, entries-step, entries-exit}
 use Rattle.writer.proofs.put_entries.Statement.{statement}
 use Rattle.writer.proofs.put_entries.Tie as tie
 
 abbrev Inv-loop : tie.InvT-loop
-Inv-loop schema table choices bits out₀ nodes n₀ reached₀ at₀ count₀ out n reached at count = Walking (schemaOf schema) (planOf (schemaOf schema) choices bits) out₀ n reached at count out
+Inv-loop schema table nodes choices bits out₀ left₀ at₀ count₀ out left at count = PuttingEntries (schemaOf schema) (planOf (schemaOf schema) choices bits) out₀ left at count out
 
 abbrev μ-loop : tie.MeasureT-loop
-μ-loop schema table choices bits out₀ nodes n₀ reached₀ at₀ count₀ out n reached at count = nodes - n
-
-count-of-requires : tie.Need-count-of-requires Inv-loop μ-loop
-count-of-requires c κs = search needs
+μ-loop schema table nodes choices bits out₀ left₀ at₀ count₀ out left at count = 256 - count
 
 loop-holds : tie.Need-loop-holds Inv-loop μ-loop
-loop-holds c = search walk-none
+loop-holds c = search entries-init
 
-has-requires : tie.Need-has-requires Inv-loop μ-loop
-has-requires c κs = search (walk-small, needs)
+lowest-requires : tie.Need-lowest-requires Inv-loop μ-loop
+lowest-requires c κs = search needs
 
 put-entry-requires : tie.Need-put-entry-requires Inv-loop μ-loop
-put-entry-requires c κs = search (walk-node, walk-room, needs)
+put-entry-requires c κs = (search entries-node, (search needs, search entries-room))
 
-element-copy-out-widened : tie.Need-element-copy-out-widened Inv-loop μ-loop
-element-copy-out-widened c = search (walk-small, needs)
-
-widened-requires : tie.Need-widened-requires Inv-loop μ-loop
-widened-requires c κs = search needs
-
-reach-requires : tie.Need-reach-requires Inv-loop μ-loop
-reach-requires c κs = search (walk-node, needs)
+turned-bit-requires : tie.Need-turned-bit-requires Inv-loop μ-loop
+turned-bit-requires c κs = search needs
 
 add-count : tie.Need-add-count Inv-loop μ-loop
-add-count c = search walk-count
-
-add-n : tie.Need-add-n Inv-loop μ-loop
-add-n c = search needs
+add-count c = search entries-count
 
 loop-less : tie.Need-loop-less Inv-loop μ-loop
-loop-less c = search needs
+loop-less c = search entries-less
 
 loop-again : tie.Need-loop-again Inv-loop μ-loop
-loop-again c =
-    let length = c .before .before .before .before in
-    let put = length .before in
-    let test = put .before .before in
-    let turn = test .before .before in
-    let loop = turn .before in
-    let known = loop .before .before .before .before .before in
-    let start = known .before in
-    walk-put _ _ _ _ _ _ _ _ _ (loop .loop .inv) (loop .before .count-of .ensures) (turn .loop-test .taken) (test .before .has .ensures) (test .if1 .taken) (start .pre .0)
-    (known .shared-slice-known .given) (start .pre .1 .1 .1) (put .put-entry .ensures) (length .out .given) (c .before .widened .ensures) (c .reach .ensures)
-
-add-n-2 : tie.Need-add-n-2 Inv-loop μ-loop
-add-n-2 c = search needs
-
-loop-less-2 : tie.Need-loop-less-2 Inv-loop μ-loop
-loop-less-2 c = search needs
-
-loop-again-2 : tie.Need-loop-again-2 Inv-loop μ-loop
-loop-again-2 c = search walk-skip
+loop-again c = search entries-step
 
 same-length : tie.Need-same-length Inv-loop μ-loop
 same-length c = search needs
 
 returns : tie.Need-returns Inv-loop μ-loop
-returns c = search walk-done
+returns c = search entries-exit
 
 pub put-entries-spec : {M : Type 1} → statement M
 put-entries-spec =
@@ -77,19 +47,12 @@ put-entries-spec =
     (tie.spec
     Inv-loop
     μ-loop
-    count-of-requires
     loop-holds
-    has-requires
+    lowest-requires
     put-entry-requires
-    element-copy-out-widened
-    widened-requires
-    reach-requires
+    turned-bit-requires
     add-count
-    add-n
     loop-less
     loop-again
-    add-n-2
-    loop-less-2
-    loop-again-2
     same-length
     returns)

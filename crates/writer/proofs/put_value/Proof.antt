@@ -1,7 +1,7 @@
 -- One return for each type.
 -- Rests on the laws of a value's bytes.
 use borrow.Author.Needs.{needs}
-use Rattle.writer.proofs.Writer.{number-wrote, listed-wrote}
+use Rattle.writer.proofs.Writer.{number-room, number-wrote, listed-room, listed-wrote}
 use Rattle.writer.proofs.put_value.Statement.{statement}
 use Rattle.writer.proofs.put_value.Tie as tie
 
@@ -9,7 +9,7 @@ enum-told : tie.Need-enum-told
 enum-told c = search needs
 
 put-u32-requires : tie.Need-put-u32-requires
-put-u32-requires c κs = search needs
+put-u32-requires c κs = search number-room
 
 add-result : tie.Need-add-result
 add-result c = search needs
@@ -21,7 +21,7 @@ cast-put-u8 : tie.Need-cast-put-u8
 cast-put-u8 c = search needs
 
 put-u8-requires : tie.Need-put-u8-requires
-put-u8-requires c κs = search needs
+put-u8-requires c κs = search listed-room
 
 add-result-2 : tie.Need-add-result-2
 add-result-2 c = search needs

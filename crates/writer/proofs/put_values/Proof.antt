@@ -3,7 +3,7 @@
 use borrow.Author.Needs.{needs}
 use Prim.Native.Nat.{_-_}
 use Rattle.schema.specs.Schema.{schemaOf, nodeAt}
-use Rattle.writer.proofs.Writer.{PuttingValues, values-none, values-room, values-put, values-wrote, node-places, place-room, place-fits, place-bytes}
+use Rattle.writer.proofs.Writer.{PuttingValues, values-init, values-room, values-step, values-exit, node-slots, slot-room, slot-fits, slot-bytes}
 use Rattle.writer.proofs.put_values.Statement.{statement}
 use Rattle.writer.proofs.put_values.Tie as tie
 
@@ -17,22 +17,22 @@ variable-count-requires : tie.Need-variable-count-requires Inv-loop μ-loop
 variable-count-requires c κs = search needs
 
 loop-holds : tie.Need-loop-holds Inv-loop μ-loop
-loop-holds c = search values-none
+loop-holds c = search values-init
 
 variable-of-requires : tie.Need-variable-of-requires Inv-loop μ-loop
 variable-of-requires c κs = search needs
 
 mul-u : tie.Need-mul-u Inv-loop μ-loop
-mul-u c = search node-places
+mul-u c = search node-slots
 
 add-u : tie.Need-add-u Inv-loop μ-loop
-add-u c = search place-fits
+add-u c = search slot-fits
 
 mul-u-2 : tie.Need-mul-u-2 Inv-loop μ-loop
-mul-u-2 c = search place-bytes
+mul-u-2 c = search slot-bytes
 
 shared-slice-read-u : tie.Need-shared-slice-read-u Inv-loop μ-loop
-shared-slice-read-u c = search place-room
+shared-slice-read-u c = search slot-room
 
 put-value-requires : tie.Need-put-value-requires Inv-loop μ-loop
 put-value-requires c κs = search values-room
@@ -44,13 +44,13 @@ loop-less : tie.Need-loop-less Inv-loop μ-loop
 loop-less c = search needs
 
 loop-again : tie.Need-loop-again Inv-loop μ-loop
-loop-again c = search values-put
+loop-again c = search values-step
 
 same-length : tie.Need-same-length Inv-loop μ-loop
 same-length c = search needs
 
 returns : tie.Need-returns Inv-loop μ-loop
-returns c = search values-wrote
+returns c = search values-exit
 
 pub put-values-spec : {M : Type 1} → statement M
 put-values-spec =

@@ -1,7 +1,8 @@
 -- The entries from byte 3 on, then the head before them.
--- Rests on the laws of `put`.
+-- Rests on the laws of `put`, and on the head's three bytes for its room.
 use borrow.Author.Needs.{needs}
-use Rattle.writer.proofs.Writer.{file-wrote}
+use native.Mathlib.Omega.{arith}
+use Rattle.writer.proofs.Writer.{head-room, file-wrote}
 use Rattle.writer.proofs.write_planned.Statement.{statement}
 use Rattle.writer.proofs.write_planned.Tie as tie
 
@@ -9,10 +10,14 @@ put-entries-requires : tie.Need-put-entries-requires
 put-entries-requires c κs = search needs
 
 put-mark-requires : tie.Need-put-mark-requires
-put-mark-requires c κs = search needs
+put-mark-requires c κs =
+    let put = c .before .before .before .before in
+    omega (arith, head-room _ _ (put .before .before .before .before .before .before .pre .1 .1 .1 .1))
 
 put-u8-requires : tie.Need-put-u8-requires
-put-u8-requires c κs = search needs
+put-u8-requires c κs =
+    let put = c .before .before .before .before .before .before .before .before in
+    omega (arith, head-room _ _ (put .before .before .before .before .before .before .pre .1 .1 .1 .1))
 
 same-length : tie.Need-same-length
 same-length c = search needs

@@ -1,0 +1,6 @@
+pub mod Values
+pub mod Tables
+pub mod Picking
+pub mod Node
+pub mod Sweep
+pub mod Answer
