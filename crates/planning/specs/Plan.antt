@@ -17,7 +17,7 @@ unfoldable pub planFor : List Node → Option (List Entry) → Plan
 planFor g none = Infeasible
 planFor g (some i) = Feasible (nodesOf i) (length (encode g i))
 
--- r tells so of the instance o, and the arrays hold it
+-- r tells so of the instance o, and the arrays hold it; what they have of nodes without an entry, or where there is no instance, is free
 pub record Plans (g : List Node) (o : Option (List Entry)) (choices bits : List ℕ) (r : Plan) : Type 0 where
   pub answer : r ≡ planFor g o
   pub holds : (i : List Entry) → o ≡ some i → planned g (planOf g choices bits) ≡ i
