@@ -1,14 +1,20 @@
--- What holds of a call's refusals of its files and pass, and of what it does with them, holds of the call.
--- Rests on the law of one reading, and on the numbers that the readers refuse with.
-use mathlib.Core.Path.{_≡_}
+-- What holds of a call's refusals of its files and pass, and of what it does with them, holds of the call; what a call comes to
+-- from the answer of the schema's reader. Rests on the laws of one reading, and on the numbers that the readers refuse with.
+use mathlib.Core.Path.{_≡_, sym, _∙_}
 use mathlib.Core.Bool.{true}
 use mathlib.Core.List.{List}
 use Prim.Native.Nat.{ℕ}
 use Rattle.fields.specs.Reading.{got}
+use Rattle.fields.specs.Answers.{stepOf, refusal, judged}
+use Rattle.fields.specs.Outcomes.{Outcome, Did, leaving}
+use Rattle.fields.specs.declared.Answer.{Answer}
+use Rattle.fields.specs.declared.Step.{Step}
+use Rattle.fields.specs.declared.Step.the-variants.{Next, Bad}
 use Rattle.fields.proofs.Refusals.{ofFile}
-use Rattle.fields.proofs.Judged.{judged-all}
-use Rattle.schema.specs.Schema.{Node, schema}
+use Rattle.fields.proofs.Judged.{judged-all, judged-bad, judged-bad-did, did-same}
+use Rattle.schema.specs.Schema.{Node, schema, schemaOf}
 use Rattle.schema.proofs.Refusals.{schema-numbered}
+use Rattle.schema.proofs.Accepted.{schema-got}
 use Rattle.policies.specs.Policies.{Policy, policies}
 use Rattle.policies.specs.Pass.{pass, forced}
 use Rattle.policies.proofs.Within.{policies-numbered, pass-numbered}
@@ -29,3 +35,29 @@ module _ {B : Type 0} (P : B → Type 0) (refuse : ℕ → ℕ → ℕ → B) (r
   pub inputs-all : (f p : List ℕ) (a b : ℕ) (k : List Node → List Policy → B) → ((g : List Node) (q : ℕ) → schema f ≡ got g q → (ps : List Policy) → P (k g ps))
       → P (withSchema refuse f (λ g. withInForce refuse g p a b (k g)))
   inputs-all f p a b k h = schema-all f _ λ g q e. in-force-all g p a b (k g) (h g q e)
+
+-- ---- the schema, by its reader's answer
+
+module _ (s : List ℕ) {x : Step} (e : x ≡ stepOf (schema s)) where
+  module _ {n o : ℕ} (h : x ≡ Bad n o) where
+    pub schema-bad : (k : List Node → Answer) {r : Answer} → r ≡ refusal n 1 o → r ≡ withSchema refusal s k
+    unfolding withSchema
+    schema-bad k i = judged-bad 1 (schema s) e h k i
+
+    pub schema-bad-did : (out : List ℕ) (k : List Node → Outcome) {r : Answer} → r ≡ refusal n 1 o → Did (withSchema (leaving out) s k) r out
+    unfolding withSchema
+    schema-bad-did out k i = judged-bad-did 1 (schema s) e h out k i
+
+  module _ {q : ℕ} (h : x ≡ Next q) where
+    schema-read : {B : Type 0} (refuse : ℕ → ℕ → ℕ → B) (k : List Node → B) → withSchema refuse s k ≡ k (schemaOf s)
+    unfolding withSchema judged
+    schema-read refuse k = rw (schema-got s e h)
+
+    pub schema-ok : (k : List Node → Answer) {r : Answer} → r ≡ k (schemaOf s) → r ≡ withSchema refusal s k
+    schema-ok k d = d ∙ sym (schema-read refusal k)
+
+    pub schema-ok-did : (out : List ℕ) (k : List Node → Outcome) {r : Answer} {after : List ℕ} → Did (k (schemaOf s)) r after → Did (withSchema (leaving out) s k) r after
+    schema-ok-did out k d = did-same (schema-read (leaving out) k) d
+
+-- in the shape of a return
+pub ruleset schemas = (schema-ok, schema-ok-did, schema-bad, schema-bad-did)

@@ -5,8 +5,8 @@ ghost use Prim.Native.Nat.{_+_, _<_, _≤_};
 ghost use lib.ListN.{length};
 ghost use Rattle.fields.specs.Answers.{refusal};
 ghost use Rattle.numbers.specs.Bits.{bit};
-ghost use Rattle.schema.specs.Schema.{mostNodes, schemaOf, nodeAt};
-ghost use Rattle.schema.specs.Table.{Tabled, Accepted, NodeIn, AtMost};
+ghost use Rattle.schema.specs.Schema.{schemaOf, nodeAt};
+ghost use Rattle.schema.specs.Table.{Tabled, Accepted, NodeIn};
 ghost use Rattle.policies.specs.Pass.{selected, Selected};
 ghost use Rattle.policies.specs.Index.{IndexIn, RankIn};
 ghost use Rattle.instances.specs.Instance.{rightChoice};
@@ -281,12 +281,12 @@ fn with_tables(
     }
 }
 
-// Policies and pass, once a schema of so many nodes is accepted; few nodes have a short table and a short index.
-fn with_schema(schema: &[u8], count: usize, p: &[u8], a: u16, b: u16, s: &[u8]) -> Answer
+// Policies and pass, once the schema is accepted; few nodes have a short table and a short index.
+fn with_schema(schema: &[u8], p: &[u8], a: u16, b: u16, s: &[u8]) -> Answer
     requires { ⌜ Accepted (now schema) ⌝ }
-    requires { ⌜ AtMost mostNodes (length (schemaOf (now schema))) count ⌝ }
     ensures { λ r. ⌜ r ≡ withInForce refusal (schemaOf (now (schema .entry))) (now (p .entry)) a b (λ ps. checkingInForce (schemaOf (now (schema .entry))) ps (now (s .entry))) ⌝ }
 {
+    let count = nodes::count_of(schema);
     if count <= FEW_NODES {
         let mut table = [0usize; FEW_TABLE_SLOTS];
         let mut index = [0usize; FEW_INDEX_SLOTS];
@@ -301,8 +301,8 @@ fn with_schema(schema: &[u8], count: usize, p: &[u8], a: u16, b: u16, s: &[u8]) 
 pub fn check(schema: &[u8], policies: &[u8], a: u16, b: u16, instance: &[u8]) -> Answer
     ensures { λ r. ⌜ r ≡ checking (now (schema .entry)) (now (policies .entry)) a b (now (instance .entry)) ⌝ }
 {
-    match inputs::read_schema(schema) {
-        Inputs::Refused { answer } => answer,
-        Inputs::Read { count } => with_schema(schema, count, policies, a, b, instance),
+    match schema::read_schema(schema) {
+        Step::Bad { number, offset } => fields::refusal(number, 1, offset),
+        Step::Next { at: _ } => with_schema(schema, policies, a, b, instance),
     }
 }

@@ -4,7 +4,7 @@ ghost use mathlib.Core.Bool.{cond};
 ghost use lib.ListN.{length, getD};
 ghost use Rattle.fields.specs.Answers.{refusal};
 ghost use Rattle.schema.specs.Schema.{mostNodes, schemaOf};
-ghost use Rattle.schema.specs.Table.{Tabled, Accepted, NodeIn, AtMost};
+ghost use Rattle.schema.specs.Table.{Tabled, Accepted, NodeIn};
 ghost use Rattle.policies.specs.Policies.{rankOf};
 ghost use Rattle.policies.specs.Pass.{selected};
 ghost use Rattle.policies.specs.Index.{PolicyIn, policyOf};
@@ -272,12 +272,12 @@ fn with_tables(
     }
 }
 
-// Policies and pass, once a schema of so many nodes is accepted; few nodes have a short table and a short index.
-fn with_schema(schema: &[u8], count: usize, p: &[u8], a: u16, b: u16, s: &[u8], t: &[u8]) -> Answer
+// Policies and pass, once the schema is accepted; few nodes have a short table and a short index.
+fn with_schema(schema: &[u8], p: &[u8], a: u16, b: u16, s: &[u8], t: &[u8]) -> Answer
     requires { ⌜ Accepted (now schema) ⌝ }
-    requires { ⌜ AtMost mostNodes (length (schemaOf (now schema))) count ⌝ }
     ensures { λ r. ⌜ r ≡ withInForce refusal (schemaOf (now (schema .entry))) (now (p .entry)) a b (λ ps. comparingInForce (schemaOf (now (schema .entry))) ps (now (s .entry)) (now (t .entry))) ⌝ }
 {
+    let count = nodes::count_of(schema);
     if count <= FEW_NODES {
         let mut table = [0usize; FEW_TABLE_SLOTS];
         let mut index = [0usize; FEW_INDEX_SLOTS];
@@ -300,8 +300,8 @@ pub fn compare(
 ) -> Answer
     ensures { λ r. ⌜ r ≡ comparing (now (schema .entry)) (now (policies .entry)) a b (now (first .entry)) (now (second .entry)) ⌝ }
 {
-    match inputs::read_schema(schema) {
-        Inputs::Refused { answer } => answer,
-        Inputs::Read { count } => with_schema(schema, count, policies, a, b, first, second),
+    match schema::read_schema(schema) {
+        Step::Bad { number, offset } => fields::refusal(number, 1, offset),
+        Step::Next { at: _ } => with_schema(schema, policies, a, b, first, second),
     }
 }

@@ -7,7 +7,6 @@ ghost use Rattle.instances.specs.File.{instance, encode};
 ghost use Rattle.calls.specs.Calls.{copying};
 use fields::Answer;
 use fields::Step;
-use inputs::Inputs;
 use nodes::TABLE_SLOTS;
 
 // A file into a buffer, or 14 where that is shorter.
@@ -37,8 +36,8 @@ fn with_schema(schema: &[u8], s: &[u8], out: &mut [u8]) -> Answer
 pub fn copy(schema: &[u8], instance: &[u8], out: &mut [u8]) -> Answer
     ensures { λ r. ⌜ Did (copying (now (schema .entry)) (now (instance .entry)) (now (out .entry))) r (now (out .exit)) ⌝ }
 {
-    match inputs::read_schema(schema) {
-        Inputs::Refused { answer } => answer,
-        Inputs::Read { count: _ } => with_schema(schema, instance, out),
+    match schema::read_schema(schema) {
+        Step::Bad { number, offset } => fields::refusal(number, 1, offset),
+        Step::Next { at: _ } => with_schema(schema, instance, out),
     }
 }

@@ -1,4 +1,4 @@
--- What the calls have of their inputs: for each way that the reading can end, what a call then comes to, whatever it does; `inputs`
+-- What the calls have of policies and pass: for each way that the reading can end, what a call then comes to, whatever it does; `inputs`
 -- gathers the laws in the shape of a return. Rests on the definitions of the readings, and on the list of the policies in force.
 use mathlib.Core.Path.{_≡_, refl, ap, sym, _∙_}
 use mathlib.Core.List.{List}
@@ -10,16 +10,15 @@ use Rattle.fields.specs.Answers.{judged, refusal}
 use Rattle.fields.specs.Outcomes.{Outcome, Did, leaving}
 use Rattle.fields.specs.declared.Answer.{Answer}
 use Rattle.fields.proofs.Judged.{did-same, refused-did}
-use Rattle.schema.specs.Schema.{Node, mostNodes, schema, schemaOf, nodesIn}
+use Rattle.schema.specs.Schema.{mostNodes, schemaOf}
 use Rattle.schema.specs.Table.{Tabled, Accepted, AtMost}
-use Rattle.schema.proofs.Accepted.{file-back}
 use Rattle.schema.proofs.Fill.{room-4, room-16, room-64}
 use Rattle.policies.specs.Policies.{Policy, policies, policiesOf}
 use Rattle.policies.specs.Pass.{pass, forced, positions, Listing, selected, Selected}
 use Rattle.policies.specs.Index.{IndexIn}
 use Rattle.policies.proofs.Above.{index-4, index-16, index-64, selects, selects-forced}
 use Rattle.policies.proofs.Pass.{lists-count, positions-of}
-use Rattle.calls.specs.Inputs.{withSchema, withPolicies, withPass, withInForce}
+use Rattle.calls.specs.Inputs.{withPolicies, withPass, withInForce}
 use Rattle.inputs.specs.Inputs.{readOf, refusedOf, RoomFor, filledList, YieldsInForce}
 use Rattle.inputs.specs.declared.Inputs.{Inputs}
 use Rattle.inputs.specs.declared.Inputs.the-variants.{Read, Refused}
@@ -31,50 +30,6 @@ record Refusing {B : Type 0} (r : Answer) (x : B) (refuse : ℕ → ℕ → ℕ 
   offset : ℕ
   answer : r ≡ refusal number file offset
   is : x ≡ refuse number file offset
-
--- ---- the schema
-
-module _ (s : List ℕ) {x : Inputs} (e : x ≡ withSchema refusedOf s readOf) where
-  -- the refusal that the answer holds
-  schema-refused : {B : Type 0} (refuse : ℕ → ℕ → ℕ → B) (k : List Node → B) {r : Answer} → x ≡ Refused r → Refusing r (withSchema refuse s k) refuse
-  unfolding withSchema judged
-  schema-refused {B} refuse k {r} h = go (schema s) (sym h ∙ e)
-    where
-      go : (g : Got (List Node)) → Refused r ≡ judged refusedOf 1 g readOf → Refusing r (judged refuse 1 g k) refuse
-      go (got g q) e = absurd (let z : _≡_ {A = ℕ} 0 1 = cc in omega arith)
-      go (bad m u) e = record { number = m; file = 1; offset = u; answer = cc; is = refl }
-
-  module _ {c : ℕ} (h : x ≡ Read c) where
-    accepted : (q : ℕ) × (schema s ≡ got (schemaOf s) q) × (c ≡ length (schemaOf s))
-    unfolding withSchema schemaOf judged
-    accepted = go (schema s) (sym h ∙ e)
-      where
-        go : (r : Got (List Node)) → Read c ≡ judged refusedOf 1 r readOf → (q : ℕ) × (r ≡ got (nodesIn r) q) × (c ≡ length (nodesIn r))
-        go (got g q) e = (q, refl, (cc))
-        go (bad m u) e = absurd (let z : _≡_ {A = ℕ} 0 1 = cc in omega arith)
-
-    pub schema-accepted : Accepted s
-    schema-accepted = record { some = file-back s (accepted .1) .some }
-
-    pub schema-count : AtMost mostNodes (length (schemaOf s)) c
-    schema-count = record { is = accepted .2; most = omega (arith, accepted .2, file-back s (accepted .1) .few) }
-
-    schema-read : {B : Type 0} (refuse : ℕ → ℕ → ℕ → B) (k : List Node → B) → withSchema refuse s k ≡ k (schemaOf s)
-    unfolding withSchema judged
-    schema-read refuse k = rw (accepted .1)
-
-    pub schema-ok : (k : List Node → Answer) {r : Answer} → r ≡ k (schemaOf s) → r ≡ withSchema refusal s k
-    schema-ok k d = d ∙ sym (schema-read refusal k)
-
-    pub schema-ok-did : (out : List ℕ) (k : List Node → Outcome) {r : Answer} {after : List ℕ} → Did (k (schemaOf s)) r after → Did (withSchema (leaving out) s k) r after
-    schema-ok-did out k d = did-same (schema-read (leaving out) k) d
-
-  module _ {r : Answer} (h : x ≡ Refused r) where
-    pub schema-bad : (k : List Node → Answer) → r ≡ withSchema refusal s k
-    schema-bad k = let w = schema-refused refusal k h in w .answer ∙ sym (w .is)
-
-    pub schema-bad-did : (out : List ℕ) (k : List Node → Outcome) → Did (withSchema (leaving out) s k) r out
-    schema-bad-did out k = let w = schema-refused (leaving out) k h in refused-did out (w .is) (w .answer)
 
 -- ---- room for the tables
 
@@ -162,4 +117,4 @@ module _ (s p : List ℕ) (a b : ℕ) (t i l₀ l : List ℕ) {x : Inputs} (w : 
     pub in-force-bad-did : (out : List ℕ) (k : List Policy → Outcome) → Did (withInForce (leaving out) (schemaOf s) p a b k) r out
     in-force-bad-did out k = let w = in-force-refused (leaving out) k h in refused-did out (w .is) (w .answer)
 
-pub ruleset inputs = (schema-ok, schema-ok-did, schema-bad, schema-bad-did, in-force-ok, in-force-ok-did, in-force-bad, in-force-bad-did)
+pub ruleset inputs = (in-force-ok, in-force-ok-did, in-force-bad, in-force-bad-did)

@@ -1,4 +1,4 @@
--- Each way that schema, policies and pass can end.
+-- Each way that policies and pass can end.
 -- Rests on what the readers' contracts tell.
 use mathlib.Core.Path.{_≡_, refl, ap, sym, _∙_}
 use mathlib.Core.List.{List}
@@ -11,9 +11,8 @@ use Rattle.fields.specs.Answers.{stepOf, refusal, judged}
 use Rattle.fields.specs.declared.Step.{Step}
 use Rattle.fields.specs.declared.Step.the-variants.{Next, Bad}
 use Rattle.fields.proofs.Reading.{stepped, stopped}
-use Rattle.schema.specs.Schema.{mostNodes, schema, schemaOf}
-use Rattle.schema.specs.Table.{Tabled, AtMost}
-use Rattle.schema.proofs.Accepted.{schema-got}
+use Rattle.schema.specs.Schema.{schemaOf}
+use Rattle.schema.specs.Table.{Tabled}
 use Rattle.policies.specs.Policies.{Policy, policies, policiesIn, policiesOf}
 use Rattle.policies.specs.Pass.{pass, forced, positions, Listing}
 use Rattle.policies.specs.Index.{Indexed}
@@ -22,21 +21,10 @@ use Rattle.policy_reader.specs.Answers.{Told}
 use Rattle.policy_reader.specs.declared.PoliciesRead.{PoliciesRead}
 use Rattle.policy_reader.specs.declared.PoliciesRead.the-variants.{Policies, Refused as NoPolicies}
 use Rattle.policy_reader.proofs.Above.{accepted-policies, indexed, refused-policies}
-use Rattle.calls.specs.Inputs.{withSchema, withPolicies, withPass, withInForce}
+use Rattle.calls.specs.Inputs.{withPolicies, withPass, withInForce}
 use Rattle.inputs.specs.Inputs.{readOf, refusedOf, YieldsPolicies, filledList, YieldsPass, YieldsInForce}
 use Rattle.inputs.specs.declared.Inputs.{Inputs}
 use Rattle.inputs.specs.declared.Inputs.the-variants.{Read, Refused}
-
--- ---- the schema
-
-module _ (s : List ℕ) {x : Step} (e : x ≡ stepOf (schema s)) where
-  pub schema-bad : {n o : ℕ} {r : Answer} → x ≡ Bad n o → r ≡ refusal n 1 o → Refused r ≡ withSchema refusedOf s readOf
-  unfolding withSchema judged
-  schema-bad h k = rw (stopped (schema s) e h) (ap Refused k)
-
-  pub schema-ok : {q c : ℕ} → x ≡ Next q → AtMost mostNodes (length (schemaOf s)) c → Read c ≡ withSchema refusedOf s readOf
-  unfolding withSchema judged
-  schema-ok h m = rw (schema-got s e h) (ap Read (m .is))
 
 -- ---- the policies
 

@@ -1,4 +1,4 @@
--- What the code's answer says of the calls' inputs, and what the lent tables hold then.
+-- What the code's answer says of policies and pass, and what the lent tables hold then.
 use Prim.Native.Nat.{ℕ}
 use mathlib.Core.Path.{_≡_}
 use mathlib.Core.List.{List}

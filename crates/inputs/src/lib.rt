@@ -1,33 +1,18 @@
-// What the calls read before their own work: the schema, then the policies, then the pass.
+// What the calls read after the schema: the policies, then the pass.
 ghost use mathlib.Core.Path.{_≡_};
 ghost use lib.ListN.{length};
 ghost use Rattle.policies.specs.Policies.{mostPolicies};
 ghost use Rattle.policies.specs.Index.{Indexed};
-ghost use Rattle.calls.specs.Inputs.{withSchema};
-ghost use Rattle.inputs.specs.Inputs.{readOf, refusedOf, RoomFor, YieldsPolicies, YieldsPass, YieldsInForce};
+ghost use Rattle.inputs.specs.Inputs.{RoomFor, YieldsPolicies, YieldsPass, YieldsInForce};
 use fields::Answer;
 use fields::Step;
 use policies::MOST_POLICIES;
 use policy_reader::PoliciesRead;
 
-// How many nodes, policies or policies in force were read, or the answer of a call that refuses them.
+// How many policies, or policies in force, were read, or the answer of a call that refuses them.
 pub enum Inputs {
     Read { count: usize },
     Refused { answer: Answer },
-}
-
-// The schema: how many nodes it has.
-pub fn read_schema(schema: &[u8]) -> Inputs
-    ensures { λ r. ⌜ r ≡ withSchema refusedOf (now (schema .entry)) readOf ⌝ }
-{
-    match schema::read_schema(schema) {
-        Step::Bad { number, offset } => Inputs::Refused {
-            answer: fields::refusal(number, 1, offset),
-        },
-        Step::Next { at: _ } => Inputs::Read {
-            count: nodes::count_of(schema),
-        },
-    }
 }
 
 // The policies, under an accepted schema: how many there are. The schema's table and the policies' index

@@ -4,6 +4,7 @@ use mathlib.Core.List.{List, [], _∷_}
 use mathlib.Core.Bool.{cond}
 use lib.ListN.{length, getD}
 use lib.IntN.{ℤ}
+use Rattle.numbers.specs.Bits.{with}
 use Rattle.schema.specs.Schema.{Node, schemaOf, nodeAt}
 use Rattle.schema.specs.declared.Variable.{Variable}
 use Rattle.instances.specs.Instance.{Entry}
@@ -17,6 +18,11 @@ plannedFrom g plan (suc k) n es =
 
 unfoldable pub planned : List Node → (ℕ → Entry) → List Entry
 planned g plan = plannedFrom g plan (length g) 0 []
+
+-- the nodes that have an entry, as bits
+unfoldable pub nodesOf : List Entry → ℕ
+nodesOf [] = 0
+nodesOf (e ∷ es) = with (nodesOf es) (e .node)
 
 -- the values whose bits stand from place k on
 unfoldable pub valuesFrom : List Variable → List ℕ → ℕ → List ℤ

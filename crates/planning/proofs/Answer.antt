@@ -1,4 +1,4 @@
--- The plan: the tables of the sweep hold the reconciled instance, where the root is feasible, and the writer measures it.
+-- The plan: the tables of the sweep hold the reconciled instance, where the root is feasible, and its nodes are those that the choices reach.
 -- Rests on the model's answer-by-plan.
 use mathlib.Core.Path.{_≡_, refl, ap, sym, _∙_}
 use mathlib.Core.Bool.{Bool, true, false, cond}
@@ -17,14 +17,12 @@ use Rattle.policies.specs.Policies.{Policy}
 use Rattle.policies.proofs.Nodes.{nodes-few}
 use Rattle.instances.specs.Instance.{Entry}
 use Rattle.instances.specs.Plan.{planned, planOf, BitsRoom}
-use Rattle.writer.specs.Writer.{MeasuredFor}
-use Rattle.writer.specs.declared.Measured.{Measured}
 use Rattle.model.specs.Reconciling.{can, plan, rulesOf, reconcile, reconciled}
 use Rattle.model.proofs.Reconciler.{answer-by-plan}
 use Rattle.model.proofs.Right.{lawful}
 use Rattle.order.specs.Order.{inSet}
 use Rattle.planning.specs.Plan.{planFor, Plans}
-use Rattle.planning.specs.Sweep.{Swept}
+use Rattle.planning.specs.Sweep.{Swept, Reached}
 use Rattle.planning.specs.declared.Plan.the-variants.{Infeasible, Feasible}
 
 -- the tables before the first node
@@ -66,12 +64,12 @@ module _ (s : List ℕ) (qs : List Policy) (feasible choices bits : List ℕ) (A
       go false e = refl
 
   -- the root is feasible
-  pub plans-some : {m : Measured} → getD feasible 0 0 ≡ 1 → MeasuredFor g choices m → Plans g (reconciled g qs) choices bits (Feasible (m .nodes) (m .length))
+  pub plans-some : {nodes : ℕ} → getD feasible 0 0 ≡ 1 → Reached g choices nodes → Plans g (reconciled g qs) choices bits (Feasible nodes)
   unfolding planFor
-  plans-some {m} e d =
+  plans-some e d =
       let o : reconciled g qs ≡ some held = instance-is ∙ rw (eq-eqb (getD feasible 0 0) 1 e) in
       record {
-        answer = rw o (ap (λ (x : Measured). Feasible (x .nodes) (x .length)) (d .is bits));
+        answer = rw o (ap Feasible (d .is bits));
         holds = λ i q. let z : some held ≡ some i = sym o ∙ q in cc;
       }
 

@@ -3,4 +3,5 @@ pub mod Tables
 pub mod Picking
 pub mod Node
 pub mod Sweep
+pub mod Reaching
 pub mod Answer

@@ -3,21 +3,18 @@ use Prim.Native.Nat.{ℕ}
 use mathlib.Core.Path.{_≡_}
 use mathlib.Core.List.{List}
 use mathlib.Core.Option.{Option, none, some}
-use lib.ListN.{length}
 use Rattle.schema.specs.Schema.{Node}
 use Rattle.instances.specs.Instance.{Entry}
-use Rattle.instances.specs.File.{encode}
-use Rattle.instances.specs.Plan.{planned, planOf}
-use Rattle.writer.specs.Writer.{nodesOf}
+use Rattle.instances.specs.Plan.{planned, nodesOf, planOf}
 use Rattle.planning.specs.declared.Plan.{Plan}
 use Rattle.planning.specs.declared.Plan.the-variants.{Infeasible, Feasible}
 
--- an instance's nodes and the length of its file, or that there is none
-unfoldable pub planFor : List Node → Option (List Entry) → Plan
-planFor g none = Infeasible
-planFor g (some i) = Feasible (nodesOf i) (length (encode g i))
+-- an instance's nodes, or that there is none
+unfoldable pub planFor : Option (List Entry) → Plan
+planFor none = Infeasible
+planFor (some i) = Feasible (nodesOf i)
 
 -- r tells so of the instance o, and the arrays hold it; what they have of nodes without an entry, or where there is no instance, is free
 pub record Plans (g : List Node) (o : Option (List Entry)) (choices bits : List ℕ) (r : Plan) : Type 0 where
-  pub answer : r ≡ planFor g o
+  pub answer : r ≡ planFor o
   pub holds : (i : List Entry) → o ≡ some i → planned g (planOf g choices bits) ≡ i

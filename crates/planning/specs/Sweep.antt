@@ -1,4 +1,4 @@
--- What the sweep over the nodes leaves in its tables.
+-- What the sweep over the nodes leaves in its tables, and which nodes its choices reach.
 -- For the contracts of functions that no other crate calls.
 use Prim.Native.Nat.{ℕ, _+_, _<_, _≤_}
 use mathlib.Core.Path.{_≡_}
@@ -15,7 +15,7 @@ use Rattle.fields.specs.Writing.{unsigned}
 use Rattle.schema.specs.Schema.{Node, mostNodes, schemaOf, nodeAt}
 use Rattle.policies.specs.Policies.{Policy, rankCount, mostPolicies}
 use Rattle.instances.specs.Instance.{chooses}
-use Rattle.instances.specs.Plan.{valuesFrom, valuesSlot, valueSlot, planOf, BitsRoom}
+use Rattle.instances.specs.Plan.{planned, nodesOf, valuesFrom, valuesSlot, valueSlot, planOf, BitsRoom}
 use Rattle.model.specs.Reconciling.{isSome, leastEach, taken, canStep, can, plan, rulesOf}
 use Rattle.order.specs.Order.{rowSlot, rankIn, inSet}
 use Rattle.conditions.specs.Held.{conditionsIn}
@@ -97,3 +97,7 @@ pub record Swept (schema : List ℕ) (qs : List Policy) (n : ℕ) (feasible choi
   pub feasible-long : length feasible ≡ mostNodes
   pub choices-long : length choices ≡ mostNodes
   pub bits-room : BitsRoom schema bits
+
+-- r has the nodes that the choices reach, as bits, whatever the values
+pub record Reached (g : List Node) (choices : List ℕ) (r : ℕ) : Type 0 where
+  pub is : (bits : List ℕ) → r ≡ nodesOf (planned g (planOf g choices bits))

@@ -1,5 +1,5 @@
 // The plan of an instance for some of a file's policies: which nodes are feasible, from the highest to 0, what each chooses
-// and its least values, then which nodes are reached and how long the instance's file is.
+// and its least values, then which nodes are reached.
 ghost use mathlib.Core.Path.{_≡_};
 ghost use mathlib.Core.Bool.{true};
 ghost use Prim.Native.Nat.{_+_, _<_, _≤_};
@@ -16,14 +16,13 @@ ghost use Rattle.model.specs.Reconciling.{combined, reconciled};
 ghost use Rattle.conditions.specs.Held.{recordOf};
 ghost use Rattle.conditions.specs.Rules.{rulesAt, RulesAt, BytesAt};
 ghost use Rattle.planning.specs.Plan.{Plans};
-ghost use Rattle.planning.specs.Sweep.{leastOf, LeastIn, Columns, Ranked, RowFilled, SuccessorsIn, Chosen, NodePlanned, Swept};
+ghost use Rattle.planning.specs.Sweep.{leastOf, LeastIn, Columns, Ranked, RowFilled, SuccessorsIn, Chosen, NodePlanned, Swept, Reached};
 use conditions::Conditions;
 use order::RANKS;
 use policies::MOST_POLICIES;
 use schema::MOST_NODES;
 use schema::MOST_SUCCESSORS;
 use schema::MOST_VARIABLES;
-use writer::Measured;
 
 // The bits of the least value left for a variable, or none.
 enum Least {
@@ -38,11 +37,10 @@ enum NodePlan {
     Choose { successor: usize },
 }
 
-// What the listed policies come to: no instance meets them all, or one with an entry for each of these nodes and a file
-// so long.
+// What the listed policies come to: no instance meets them all, or one with an entry for each of these nodes, as bits.
 pub enum Plan {
     Infeasible,
-    Feasible { nodes: u64, length: usize },
+    Feasible { nodes: u64 },
 }
 
 // The least value left for a variable: of a number's range, or of a listed one's mask.
@@ -286,6 +284,35 @@ fn sweep_nodes(
     }
 }
 
+fn wide(x: u8) -> usize
+    ensures { λ r. ⌜ r ≡ x ⌝ }
+{
+    x as usize
+}
+
+// Which nodes the choices reach. A wrong choice may reach a node that was passed or that there is not: such a node has no
+// entry.
+fn reached_nodes(schema: &[u8], table: &[usize], choices: &[u8; MOST_NODES]) -> u64
+    requires { ⌜ Accepted (now schema) ⌝ }
+    requires { ⌜ Tabled (now schema) (now table) ⌝ }
+    ensures { λ r. ⌜ Reached (schemaOf (now (schema .entry))) (now (choices .entry)) r ⌝ }
+{
+    let count = nodes::count_of(schema);
+    let mut n: usize = 0;
+    let mut reached: u64 = 1;
+    let mut passed: u64 = 0;
+    while n < count {
+        if numbers::has(reached, n) {
+            reached = instances::reach(schema, table, n, wide(choices[n]), reached);
+            passed = numbers::with(passed, n);
+            n += 1;
+        } else {
+            n += 1;
+        }
+    }
+    passed
+}
+
 // What the listed policies come to: the instance that the model gives for them, held by the choices and the bits of the
 // values, which are lent.
 pub fn plan_for(
@@ -323,8 +350,9 @@ pub fn plan_for(
         bits,
     );
     if feasible[0] == 1 {
-        let Measured { nodes, length } = writer::measure(schema, table, choices);
-        return Plan::Feasible { nodes, length };
+        return Plan::Feasible {
+            nodes: reached_nodes(schema, table, choices),
+        };
     }
     Plan::Infeasible
 }

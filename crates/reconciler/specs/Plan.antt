@@ -11,4 +11,4 @@ use Rattle.planning.specs.declared.Plan.the-variants.{Infeasible, Feasible}
 -- none where the plan has none, else that of the choices and of the values' bits
 unfoldable pub heldBy : List Node → Plan → List ℕ → List ℕ → Option (List Entry)
 heldBy g Infeasible choices bits = none
-heldBy g (Feasible nodes length) choices bits = some (planned g (planOf g choices bits))
+heldBy g (Feasible nodes) choices bits = some (planned g (planOf g choices bits))

@@ -1,11 +1,13 @@
 // The reconciler: schema, policies and pass are read, an instance is planned for the policies in force, and its file written.
-ghost use lib.ListN.{length};
+ghost use mathlib.Core.Path.{_≡_};
+ghost use lib.Dec.{ltb};
 ghost use Rattle.fields.specs.Outcomes.{Did, leaving};
-ghost use Rattle.schema.specs.Schema.{mostNodes, schemaOf};
-ghost use Rattle.schema.specs.Table.{Accepted, Tabled, AtMost};
+ghost use Rattle.schema.specs.Schema.{schemaOf};
+ghost use Rattle.schema.specs.Table.{Accepted, Tabled};
 ghost use Rattle.policies.specs.Pass.{selected, Selected};
 ghost use Rattle.policies.specs.Index.{IndexIn};
 ghost use Rattle.instances.specs.Plan.{BitsRoom};
+ghost use Rattle.writer.specs.Writer.{fileLength};
 ghost use Rattle.model.specs.Reconciling.{reconciled};
 ghost use Rattle.planning.specs.Plan.{Plans};
 ghost use Rattle.calls.specs.Inputs.{withInForce};
@@ -13,7 +15,9 @@ ghost use Rattle.inputs.specs.Inputs.{RoomFor};
 ghost use Rattle.calls.specs.Calls.{given, reconciling};
 ghost use Rattle.reconciler.specs.Plan.{heldBy};
 use fields::Answer;
+use fields::Step;
 use inputs::Inputs;
+use instances::MOST_BYTES;
 use nodes::FEW_NODES;
 use nodes::FEW_TABLE_SLOTS;
 use nodes::FEWEST_NODES;
@@ -26,6 +30,18 @@ use policies::INDEX_SLOTS;
 use policies::MOST_POLICIES;
 use schema::MOST_NODES;
 use schema::MOST_VARIABLES;
+
+// Whether so much room is less than the file of these nodes has bytes; room for the longest file is not.
+fn is_short(schema: &[u8], table: &[usize], nodes: u64, room: usize) -> bool
+    requires { ⌜ Accepted (now schema) ⌝ }
+    requires { ⌜ Tabled (now schema) (now table) ⌝ }
+    ensures { λ r. ⌜ r ≡ ltb room (fileLength (schemaOf (now (schema .entry))) nodes) ⌝ }
+{
+    if room < MOST_BYTES {
+        return room < writer::file_length(schema, table, nodes);
+    }
+    false
+}
 
 // The last rows: 13 where there is no instance, 14 where the buffer is shorter than its file, else the file.
 fn write_plan(
@@ -44,8 +60,8 @@ fn write_plan(
 {
     match plan {
         Plan::Infeasible => fields::refusal(13, 0, 0),
-        Plan::Feasible { nodes, length } => {
-            if out.len() < length {
+        Plan::Feasible { nodes } => {
+            if is_short(schema, table, nodes, out.len()) {
                 return fields::refusal(14, 0, 0);
             }
             fields::success(writer::write_planned(schema, table, nodes, choices, bits, out))
@@ -98,12 +114,12 @@ fn with_tables(
     }
 }
 
-// Policies and pass, once a schema of so many nodes is accepted; few nodes have short tables, which are sooner cleared.
-fn with_schema(schema: &[u8], count: usize, p: &[u8], a: u16, b: u16, out: &mut [u8]) -> Answer
+// Policies and pass, once the schema is accepted; few nodes have short tables, which are sooner cleared.
+fn with_schema(schema: &[u8], p: &[u8], a: u16, b: u16, out: &mut [u8]) -> Answer
     requires { ⌜ Accepted (now schema) ⌝ }
-    requires { ⌜ AtMost mostNodes (length (schemaOf (now schema))) count ⌝ }
     ensures { λ r. ⌜ Did (withInForce (leaving (now (out .entry))) (schemaOf (now (schema .entry))) (now (p .entry)) a b (λ ps. given (schemaOf (now (schema .entry))) (now (out .entry)) (reconciled (schemaOf (now (schema .entry))) ps))) r (now (out .exit)) ⌝ }
 {
+    let count = nodes::count_of(schema);
     if count <= FEWEST_NODES {
         let mut table = [0usize; FEWEST_TABLE_SLOTS];
         let mut index = [0usize; FEWEST_INDEX_SLOTS];
@@ -126,8 +142,8 @@ fn with_schema(schema: &[u8], count: usize, p: &[u8], a: u16, b: u16, out: &mut 
 pub fn reconcile(schema: &[u8], policies: &[u8], a: u16, b: u16, out: &mut [u8]) -> Answer
     ensures { λ r. ⌜ Did (reconciling (now (schema .entry)) (now (policies .entry)) a b (now (out .entry))) r (now (out .exit)) ⌝ }
 {
-    match inputs::read_schema(schema) {
-        Inputs::Refused { answer } => answer,
-        Inputs::Read { count } => with_schema(schema, count, policies, a, b, out),
+    match schema::read_schema(schema) {
+        Step::Bad { number, offset } => fields::refusal(number, 1, offset),
+        Step::Next { at: _ } => with_schema(schema, policies, a, b, out),
     }
 }

@@ -22,10 +22,9 @@ use Rattle.schema.specs.Schema.{Node, nodeAt}
 use Rattle.schema.specs.declared.Variable.{Variable}
 use Rattle.instances.specs.Instance.{Entry}
 use Rattle.instances.specs.File.{IH, reached, valueOf, encodeValue, encodeValues, encodeEntry, encodeEntries, encode}
-use Rattle.instances.specs.Plan.{plannedFrom, planned, valuesFrom, planOf}
+use Rattle.instances.specs.Plan.{plannedFrom, planned, nodesOf, valuesFrom, planOf}
 use Rattle.instances.proofs.Lengths.{value-width, entry-length}
 use Rattle.lookup.specs.Lookup.{valuesWidth}
-use Rattle.writer.specs.Writer.{nodesOf}
 
 -- ---- bytes
 
@@ -100,7 +99,7 @@ module _ (plan : ℕ → Entry) where
     first-bit m j es h = rw (mine m) (with-bit (nodesOf es) m j (omega arith))
 
     -- no bit below the first
-    nodes-from : {n : ℕ} {es : List Entry} → AscendingFrom plan k n es → (j : ℕ) → bit (nodesOf es) j ≡ true → n ≤ j
+    pub nodes-from : {n : ℕ} {es : List Entry} → AscendingFrom plan k n es → (j : ℕ) → bit (nodesOf es) j ≡ true → n ≤ j
     unfolding nodesOf
     nodes-from none j t = never (sym (no-bit j) ∙ t)
     nodes-from {n} (more m {es} a b f) j t = go (λ q. nodes-from f j q) (or-true (bit (nodesOf es) j) (eqb j m) (sym (first-bit m j es b) ∙ t))

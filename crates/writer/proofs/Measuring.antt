@@ -1,186 +1,143 @@
--- Going over the nodes in turn: what was counted and the entries from node n on make the whole, whatever the values.
+-- How long the file of some nodes is: the sum node by node, and that a plan's file is so long for the nodes that it reaches.
 -- Rests on Entries.antt, on the laws of bits of the crate numbers, and on a sound schema for the greatest length.
 use mathlib.Core.Path.{_≡_, refl, ap, sym, _∙_}
-use mathlib.Core.Logic.{_⊎_, inl, inr}
-use mathlib.Core.Bool.{Bool, true, false, _||_}
-use mathlib.Core.List.{List, [], _∷_, List·Memᴰ}
-use Prim.Native.Nat.{ℕ, suc, _+_, _-_, _≤_, _<_}
+use mathlib.Core.Bool.{Bool, true, false, cond, _||_}
+use mathlib.Core.List.{List, []}
+use Prim.Native.Nat.{ℕ, zero, suc, _+_, _*_, _≤_, _<_}
 use native.Mathlib.Omega.{arith}
-use lib.Dec.{eqb}
-use lib.ListN.{length, getD, length-append}
+use native.Mathlib.Decide.{decLt}
+use borrow.Author.Tests.{eq-eqb, ne-eqb}
+use lib.ListN.{length, length-append}
 use mir.Val.{Fits}
 use mir.Syntax.{w64}
-use Rattle.fields.proofs.Bytes.{Bytes}
-use Rattle.fields.proofs.Tests.{alike, or-true, or-left, or-right}
-use Rattle.numbers.specs.Bits.{bit, with, withAll}
-use Rattle.numbers.proofs.Bits.{pow-bit, no-bit, with-bit, all-keeps, all-in, all-only, bits-same}
+use Rattle.fields.proofs.Tests.{is-not}
+use Rattle.numbers.specs.Bits.{bit, with}
+use Rattle.numbers.proofs.Bits.{no-bit, with-bit}
 use Rattle.schema.specs.Schema.{Node, schemaOf, nodeAt}
-use Rattle.schema.specs.Table.{Tabled, Accepted, NodeIn, AtMost}
-use Rattle.schema.proofs.Accepted.{sound}
-use Rattle.instances.specs.Instance.{Entry, elem, reaches}
-use Rattle.instances.specs.File.{reached, encodeEntry, encodeEntries, encode, mostBytes}
-use Rattle.instances.specs.Plan.{plannedFrom, planned, planOf}
-use Rattle.instances.proofs.Planned.{planned-longest}
-use Rattle.instances.proofs.Valid.{mem-elem, elem-mem}
+use Rattle.schema.specs.Table.{Tabled, NodeIn, AtMost}
+use Rattle.schema.proofs.Sound.{Sound}
+use Rattle.instances.specs.Instance.{Entry}
+use Rattle.instances.specs.File.{mostBytes, encodeEntry, encodeEntries, encode}
+use Rattle.instances.specs.Plan.{planned, nodesOf, planOf}
+use Rattle.instances.proofs.Lengths.{entry-most}
 use Rattle.lookup.specs.Lookup.{valuesWidth}
-use Rattle.writer.specs.Writer.{nodesOf, measured, MeasuredFor}
-use Rattle.writer.specs.declared.Measured.{Measured}
-use Rattle.writer.proofs.Entries.{planned-length, head-length}
+use Rattle.writer.specs.Writer.{entriesLength, fileLength}
+use Rattle.writer.proofs.Entries.{planned-length, head-length, Own, own, AscendingFrom, none, more, planned-ascending, nodes-from}
 
--- ---- a list of nodes as bits
+-- ---- the sum so far
 
-all-below : (m k : ℕ) (l : List ℕ) → k < 64 → bit (withAll m l) k ≡ bit m k || elem k l
-all-below m k l h = alike (bit (withAll m l) k) (bit m k || elem k l) (λ t. to (all-only m k l t)) (λ t. from (or-true (bit m k) (elem k l) t))
-  where
-    to : (bit m k ≡ true) ⊎ List·Memᴰ k l → bit m k || elem k l ≡ true
-    to (inl t) = or-left (bit m k) (elem k l) t
-    to (inr t) = or-right (bit m k) (elem k l) (mem-elem t)
+pub record Summing (g : List Node) (nodes n sum : ℕ) : Type 0 where
+  pub is : sum ≡ entriesLength g nodes n
+  pub most : sum ≤ 20 * n
+  pub below : n ≤ length g
 
-    from : (bit m k ≡ true) ⊎ (elem k l ≡ true) → bit (withAll m l) k ≡ true
-    from (inl t) = all-keeps m k l t
-    from (inr t) = all-in m k l h (elem-mem k l t)
+pub summing-init : (g : List Node) (nodes : ℕ) → Summing g nodes 0 0
+unfolding entriesLength
+summing-init g nodes = record { is = refl; most = omega arith; below = omega arith }
 
-or-swap : (a b : Bool) → a || b ≡ b || a
-or-swap true true = refl
-or-swap true false = refl
-or-swap false true = refl
-or-swap false false = refl
+module _ (f : List ℕ) (nodes n sum : ℕ) {c : ℕ} (w : Summing (schemaOf f) nodes n sum) (l : AtMost 64 (length (schemaOf f)) c) where
+  pub summing-exit : c ≤ n → AtMost 1280 (entriesLength (schemaOf f) nodes (length (schemaOf f))) sum
+  summing-exit h =
+      let z : n ≡ length (schemaOf f) = omega (arith, l .is, w .below) in
+      record { is = w .is ∙ ap (entriesLength (schemaOf f) nodes) z; most = omega (arith, w .most, w .below, l .is, l .most) }
 
--- from the right to the left
-or-move : (a b c : Bool) → (a || c) || b ≡ a || (b || c)
-or-move true b c = refl
-or-move false b c = or-swap c b
+  module _ (h : n < c) where
+    pub summing-small : n < 64
+    summing-small = omega (arith, l .most)
 
-or-none : (a : Bool) → a ≡ a || false
-or-none true = refl
-or-none false = refl
+    pub summing-node : (t : List ℕ) → Tabled f t → NodeIn f t n
+    summing-node t e = record { table = e; below = omega (arith, l .is) }
 
--- ---- the entries from node n on, after the entries es
+    pub summing-head-fits : Fits w64 (sum + 4)
+    summing-head-fits = record { fits = omega (arith, w .most, l .most) }
 
-abbrev pub restOf : List Node → (ℕ → Entry) → ℕ → List Entry → List Entry
-restOf g plan n es = plannedFrom g plan (length g - n) n es
+    pub summing-fits : {x k : ℕ} → AtMost 16 x k → Fits w64 (sum + 4 + k)
+    summing-fits d = record { fits = omega (arith, w .most, l .most, d .most) }
 
-module _ (g : List Node) (plan : ℕ → Entry) (n : ℕ) (es : List Entry) where
-  rest-exit : length g ≤ n → restOf g plan n es ≡ []
-  unfolding plannedFrom
-  rest-exit h = let z : length g - n ≡ 0 = omega arith in rw z
+    module _ {t : Bool} (e : t ≡ bit nodes n) where
+      next : {u : Bool} → t ≡ u → entriesLength (schemaOf f) nodes (n + 1) ≡ entriesLength (schemaOf f) nodes n + cond u (4 + valuesWidth (nodeAt (schemaOf f) n .variables)) 0
+      unfolding entriesLength
+      next q = let z : n + 1 ≡ suc n = omega arith in rw (z, sym e ∙ q)
 
-  module _ (h : n < length g) where
-    less : length g - n ≡ suc (length g - (n + 1))
-    less = omega arith
+      pub summing-take : {k : ℕ} → t ≡ true → AtMost 16 (valuesWidth (nodeAt (schemaOf f) n .variables)) k → Summing (schemaOf f) nodes (n + 1) (sum + 4 + k)
+      summing-take q d = record { is = omega (arith, w .is, d .is, next q); most = omega (arith, w .most, d .most); below = omega (arith, l .is) }
 
-    rest-skip : reached g es n ≡ false → restOf g plan n es ≡ restOf g plan (n + 1) es
-    unfolding plannedFrom
-    rest-skip t = rw (less, t)
+      pub summing-skip : t ≡ false → Summing (schemaOf f) nodes (n + 1) sum
+      summing-skip q = record { is = omega (arith, w .is, next q); most = omega (arith, w .most); below = omega (arith, l .is) }
 
-    rest-take : reached g es n ≡ true → restOf g plan n es ≡ plan n ∷ restOf g plan (n + 1) (plan n ∷ es)
-    unfolding plannedFrom
-    rest-take t = rw (less, t)
+pub file-sum : (g : List Node) (nodes : ℕ) {r : ℕ} → AtMost 1280 (entriesLength g nodes (length g)) r → AtMost mostBytes (fileLength g nodes) (3 + r)
+unfolding fileLength
+file-sum g nodes w = record { is = ap (λ (k : ℕ). 3 + k) (w .is); most = omega (arith, w .most) }
 
--- ---- the nodes in turn
+-- ---- a plan's file
 
--- nodes below n were passed; es are the entries so far, which reach the bits of m
-pub record MeasuringPlan (g : List Node) (plan : ℕ → Entry) (n m nodes long : ℕ) : Type 0 where
-  pub es : List Entry
-  pub reaching : (j : ℕ) → j < 64 → bit m j ≡ reached g es j
-  pub joined : (j : ℕ) → bit nodes j || bit (nodesOf (restOf g plan n es)) j ≡ bit (nodesOf (planned g plan)) j
-  pub sum : long + length (encodeEntries g (restOf g plan n es)) ≡ length (encode g (planned g plan))
+module _ (g : List Node) where
+  abbrev width : ℕ → ℕ
+  width n = 4 + valuesWidth (nodeAt g n .variables)
 
--- the same for any values
-pub record Measuring (g : List Node) (choices : List ℕ) (n m nodes long : ℕ) : Type 0 where
-  pub each : (bits : List ℕ) → MeasuringPlan g (planOf g choices bits) n m nodes long
+  no-nodes : (n : ℕ) → entriesLength g 0 n ≡ 0
+  unfolding entriesLength
+  no-nodes zero = refl
+  no-nodes (suc n) = rw (no-bit n) (omega (arith, no-nodes n))
 
-pub measuring-init : (g : List Node) (choices : List ℕ) → Measuring g choices 0 1 0 3
-unfolding reached planned
-measuring-init g choices = record { each = λ bits. this (planOf g choices bits) }
-  where
-    this : (plan : ℕ → Entry) → MeasuringPlan g plan 0 1 0 3
-    this plan =
-        let z : length g - 0 ≡ length g = omega arith in
-        record {
-          es = [];
-          reaching = λ j h. pow-bit 0 j;
-          joined = λ j. rw (z, no-bit j);
-          sum = rw z (sym (head-length g (planned g plan)));
-        }
+  -- one node more
+  module _ (nodes m : ℕ) (small : m < 64) (new : bit nodes m ≡ false) where
+    others-same : (j : ℕ) → (j ≡ m → ⊥) → bit (with nodes m) j ≡ bit nodes j
+    others-same j h = with-bit nodes m j small ∙ ap (λ (b : Bool). bit nodes j || b) (ne-eqb j m h) ∙ or-none (bit nodes j)
+      where
+        or-none : (a : Bool) → a || false ≡ a
+        or-none true = refl
+        or-none false = refl
 
-same : {a b x y : ℕ} → a ≡ b → x ≡ y → _≡_ {A = Measured} (record { nodes = a; length = x }) (record { nodes = b; length = y })
-same p q = cc
+    new-set : bit (with nodes m) m ≡ true
+    new-set = with-bit nodes m m small ∙ rw (new, eq-eqb m m refl)
 
-module _ (f choices : List ℕ) (n m nodes long : ℕ) {c : ℕ} (w : Measuring (schemaOf f) choices n m nodes long) (l : AtMost 64 (length (schemaOf f)) c) where
-  measuring-most : Accepted f → Bytes f → long ≤ mostBytes
-  measuring-most a x = omega (arith, w .each [] .sum, planned-longest (schemaOf f) (sound f x (a .some)) (planOf (schemaOf f) choices []))
+    below-new : (j : ℕ) → j ≤ m → entriesLength g (with nodes m) j ≡ entriesLength g nodes j
+    unfolding entriesLength
+    below-new zero h = refl
+    below-new (suc j) h = rw (others-same j (λ e. omega arith)) (omega (arith, below-new j (omega arith)))
 
-  pub measuring-head-fits : Accepted f → Bytes f → Fits w64 (long + 4)
-  measuring-head-fits a x = record { fits = omega (arith, measuring-most a x) }
+    above-new : (j : ℕ) → m < j → entriesLength g (with nodes m) j ≡ entriesLength g nodes j + width m
+    unfolding entriesLength
+    above-new zero h = absurd (omega arith)
+    above-new (suc j) h = go (λ k. above-new j k) (decLt m j)
+      where
+        go : (m < j → entriesLength g (with nodes m) j ≡ entriesLength g nodes j + width m) → Dec (m < j) → entriesLength g (with nodes m) (suc j) ≡ entriesLength g nodes (suc j) + width m
+        go ih (yes k) = rw (others-same j (λ e. omega arith)) (omega (arith, ih k))
+        go ih (no k) = let z : j ≡ m = omega arith in rw (z, new-set, new) (omega (arith, below-new m (omega arith)))
 
-  pub measuring-entry-fits : {x k : ℕ} → Accepted f → Bytes f → AtMost 16 x k → Fits w64 (long + 4 + k)
-  measuring-entry-fits a x h = record { fits = omega (arith, measuring-most a x, h .most) }
-
-  pub measuring-small : n < c → n < 64
-  measuring-small h = omega (arith, l .most)
-
-  pub measuring-node : (t : List ℕ) → n < c → Tabled f t → NodeIn f t n
-  measuring-node t h e = record { table = e; below = omega (arith, l .is) }
-
-  pub measuring-exit : c ≤ n → Accepted f → Bytes f → MeasuredFor (schemaOf f) choices (record { nodes = nodes; length = long })
+  entries-sum : (plan : ℕ → Entry) → Own plan → {k n : ℕ} {es : List Entry} → k ≤ 64 → ((m : ℕ) → length (encodeEntry g (plan m)) ≡ width m) → AscendingFrom plan k n es
+      → entriesLength g (nodesOf es) k ≡ length (encodeEntries g es)
   unfolding nodesOf encodeEntries
-  measuring-exit h a x = record { is = λ bits. this (planOf (schemaOf f) choices bits) (w .each bits); most = measuring-most a x }
-    where
-      this : (plan : ℕ → Entry) → MeasuringPlan (schemaOf f) plan n m nodes long → record { nodes = nodes; length = long } ≡ measured (schemaOf f) (planned (schemaOf f) plan)
-      this plan v =
-          let none = rest-exit (schemaOf f) plan n (v .es) (omega (arith, l .is)) in
-          same
-          (bits-same nodes (nodesOf (planned (schemaOf f) plan)) (λ j.
-          or-none (bit nodes j) ∙ ap (λ (k : Bool). bit nodes j || k) (sym (no-bit j)) ∙ ap (λ (r : List Entry). bit nodes j || bit (nodesOf r) j) (sym none) ∙ v .joined j))
-          (omega (arith, v .sum, ap (λ (r : List Entry). length (encodeEntries (schemaOf f) r)) none))
+  entries-sum plan mine {k} h long none = no-nodes k
+  entries-sum plan mine {k} h long (more m {es} a b f) =
+      let new = is-not (bit (nodesOf es) m) (λ t. let z = nodes-from plan mine h f m t in omega arith) in
+      ap (λ (j : ℕ). entriesLength g (with (nodesOf es) j) k) (mine m)
+      ∙ omega (
+        arith,
+        above-new (nodesOf es) m (omega arith) new k b,
+        entries-sum plan mine h long f,
+        long m,
+        length-append (encodeEntry g (plan m)) (encodeEntries g es),
+      )
 
-  module _ (h : n < c) {t : Bool} (e : t ≡ bit m n) where
-    is-reached : {plan : ℕ → Entry} {u : Bool} (v : MeasuringPlan (schemaOf f) plan n m nodes long) → t ≡ u → reached (schemaOf f) (v .es) n ≡ u
-    is-reached v q = sym (v .reaching n (measuring-small h)) ∙ sym e ∙ q
+  pub file-length-is : length g ≤ 64 → (choices bits : List ℕ) → fileLength g (nodesOf (planned g (planOf g choices bits))) ≡ length (encode g (planned g (planOf g choices bits)))
+  unfolding fileLength
+  file-length-is h choices bits =
+      let plan = planOf g choices bits in
+      omega (arith, head-length g (planned g plan), entries-sum plan (own g choices bits) h (planned-length g choices bits) (planned-ascending plan g))
 
-    pub measuring-skip : t ≡ false → Measuring (schemaOf f) choices (n + 1) m nodes long
-    measuring-skip q = record { each = λ bits. this (planOf (schemaOf f) choices bits) (w .each bits) }
-      where
-        this : (plan : ℕ → Entry) → MeasuringPlan (schemaOf f) plan n m nodes long → MeasuringPlan (schemaOf f) plan (n + 1) m nodes long
-        this plan v =
-            let on = rest-skip (schemaOf f) plan n (v .es) (omega (arith, l .is)) (is-reached v q) in
-            record { es = v .es; reaching = v .reaching; joined = rw on at (v .joined); sum = rw on at (v .sum) }
+  -- and none is longer
+  module _ (S : Sound g) (nodes : ℕ) where
+    entry-width : (n : ℕ) (b : Bool) → cond b (width n) 0 ≤ 20
+    entry-width n true = omega (arith, planned-length g [] [] n, entry-most g S (planOf g [] [] n))
+    entry-width n false = omega arith
 
-    pub measuring-step : {m₁ nodes₁ v k : ℕ} → t ≡ true → AtMost 16 (valuesWidth (nodeAt (schemaOf f) n .variables)) k → v ≡ getD choices n 0
-        → m₁ ≡ withAll m (reaches (nodeAt (schemaOf f) n) v) → nodes₁ ≡ with nodes n → Measuring (schemaOf f) choices (n + 1) m₁ nodes₁ (long + 4 + k)
-    unfolding planOf nodesOf encodeEntries reached
-    measuring-step {m₁} {nodes₁} {v} {k} q wd ev em en = record { each = λ bits. this bits (w .each bits) }
-      where
-        this : (bits : List ℕ) → MeasuringPlan (schemaOf f) (planOf (schemaOf f) choices bits) n m nodes long → MeasuringPlan (schemaOf f) (planOf (schemaOf f) choices bits) (n + 1) m₁ nodes₁ (long + 4 + k)
-        this bits o =
-            let g = schemaOf f in
-            let plan = planOf g choices bits in
-            let to = reaches (nodeAt g n) (getD choices n 0) in
-            let others = restOf g plan (n + 1) (plan n ∷ o .es) in
-            let on : restOf g plan n (o .es) ≡ plan n ∷ others = rest-take g plan n (o .es) (omega (arith, l .is)) (is-reached o q) in
-            let small = measuring-small h in
-            record {
-              es = plan n ∷ o .es;
-              reaching = λ j z.
-                  ap (λ (x : ℕ). bit x j) (em ∙ ap (λ (x : ℕ). withAll m (reaches (nodeAt g n) x)) ev)
-                  ∙ all-below m j to z
-                  ∙ or-swap (bit m j) (elem j to)
-                  ∙ ap (λ (x : Bool). elem j to || x) (o .reaching j z);
-              joined = λ j.
-                  ap (λ (x : ℕ). bit x j || bit (nodesOf others) j) en
-                  ∙ ap (λ (x : Bool). x || bit (nodesOf others) j) (with-bit nodes n j small)
-                  ∙ or-move (bit nodes j) (bit (nodesOf others) j) (eqb j n)
-                  ∙ ap (λ (x : Bool). bit nodes j || x) (sym (with-bit (nodesOf others) n j small))
-                  ∙ ap (λ (r : List Entry). bit nodes j || bit (nodesOf r) j) (sym on)
-                  ∙ o .joined j;
-              sum =
-                  omega (
-                    arith,
-                    o .sum,
-                    wd .is,
-                    ap (λ (r : List Entry). length (encodeEntries g r)) on,
-                    length-append (encodeEntry g (plan n)) (encodeEntries g others),
-                    planned-length g choices bits n,
-                  );
-            }
+    sum-most : (n : ℕ) → entriesLength g nodes n ≤ 20 * n
+    unfolding entriesLength
+    sum-most zero = omega arith
+    sum-most (suc n) = omega (arith, sum-most n, entry-width n (bit nodes n))
+
+    pub file-length-most : fileLength g nodes ≤ mostBytes
+    unfolding fileLength
+    file-length-most = omega (arith, sum-most (length g), S .few)

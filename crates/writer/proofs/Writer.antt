@@ -23,12 +23,12 @@ use Rattle.schema.proofs.Accepted.{sound}
 use Rattle.schema.proofs.Access.{node-small}
 use Rattle.instances.specs.Instance.{Entry}
 use Rattle.instances.specs.File.{IH, IN, valueWidth, valueOf, encodeValue, encodeValues, encodeEntry, encodeEntries, encode}
-use Rattle.instances.specs.Plan.{planned, valuesFrom, planOf, BitsRoom}
+use Rattle.instances.specs.Plan.{planned, nodesOf, valuesFrom, planOf, BitsRoom}
 use Rattle.instances.proofs.Planned.{from-few}
 use Rattle.instances.proofs.Node.{vars-more}
 use Rattle.lookup.specs.Lookup.{valuesWidth}
 use Rattle.lookup.proofs.Lookup.{width-number, width-listed}
-use Rattle.writer.specs.Writer.{nodesOf, WroteEntries}
+use Rattle.writer.specs.Writer.{WroteEntries}
 use Rattle.writer.specs.declared.EntriesPut.{EntriesPut}
 use Rattle.writer.proofs.Entries.{valuesBytes, values-length, planned-length, head-length, Own, own, AscendingFrom, none, more, planned-ascending, nodes-some, nodes-lowest, nodes-others}
 

@@ -1,30 +1,25 @@
--- What the writer asks of an instance before it writes it, and the entries in a lent buffer.
-use Prim.Native.Nat.{ℕ, _≤_}
+-- How long the file of some nodes is, and the entries in a lent buffer.
+use Prim.Native.Nat.{ℕ, zero, suc, _+_}
 use mathlib.Core.Path.{_≡_}
-use mathlib.Core.List.{List, [], _∷_}
+use mathlib.Core.List.{List}
+use mathlib.Core.Bool.{cond}
 use lib.ListN.{length}
 use Rattle.fields.specs.Writing.{Wrote}
-use Rattle.numbers.specs.Bits.{with}
-use Rattle.schema.specs.Schema.{Node}
+use Rattle.numbers.specs.Bits.{bit}
+use Rattle.schema.specs.Schema.{Node, nodeAt}
 use Rattle.instances.specs.Instance.{Entry}
-use Rattle.instances.specs.File.{encodeEntries, encode, mostBytes}
-use Rattle.instances.specs.Plan.{planned, planOf}
-use Rattle.writer.specs.declared.Measured.{Measured}
+use Rattle.instances.specs.File.{encodeEntries}
+use Rattle.lookup.specs.Lookup.{valuesWidth}
 use Rattle.writer.specs.declared.EntriesPut.{EntriesPut}
 
--- the nodes that have an entry, as bits
-unfoldable pub nodesOf : List Entry → ℕ
-nodesOf [] = 0
-nodesOf (e ∷ es) = with (nodesOf es) (e .node)
+-- the bytes of the entries of those of these nodes, given as bits, that are below n
+unfoldable pub entriesLength : List Node → ℕ → ℕ → ℕ
+entriesLength g nodes zero = 0
+entriesLength g nodes (suc n) = entriesLength g nodes n + cond (bit nodes n) (4 + valuesWidth (nodeAt g n .variables)) 0
 
--- an instance's nodes, and the length of its file
-abbrev pub measured : List Node → List Entry → Measured
-measured g i = record { nodes = nodesOf i; length = length (encode g i) }
-
--- r is so for the plan of these choices, whatever its values
-pub record MeasuredFor (g : List Node) (choices : List ℕ) (r : Measured) : Type 0 where
-  pub is : (bits : List ℕ) → r ≡ measured g (planned g (planOf g choices bits))
-  pub most : r .length ≤ mostBytes
+-- the bytes of a file with an entry for each of these nodes
+unfoldable pub fileLength : List Node → ℕ → ℕ
+fileLength g nodes = 3 + entriesLength g nodes (length g)
 
 -- the entries of i, from byte 3 on, and how many they are: for a function that no other crate calls
 pub record WroteEntries (g : List Node) (i : List Entry) (b after : List ℕ) (r : EntriesPut) : Type 0 where

@@ -4,11 +4,11 @@ ghost use Prim.Native.Nat.{_+_, _*_, _≤_};
 ghost use lib.ListN.{length};
 ghost use Rattle.fields.specs.Writing.{Wrote};
 ghost use Rattle.schema.specs.Schema.{schemaOf, nodeAt};
-ghost use Rattle.schema.specs.Table.{Tabled, Accepted, NodeIn};
-ghost use Rattle.instances.specs.File.{valueWidth, valueOf, encodeValue, encodeValues, encodeEntry, encode};
-ghost use Rattle.instances.specs.Plan.{planned, valuesFrom, planOf, BitsRoom};
+ghost use Rattle.schema.specs.Table.{Tabled, Accepted, NodeIn, AtMost};
+ghost use Rattle.instances.specs.File.{mostBytes, valueWidth, valueOf, encodeValue, encodeValues, encodeEntry, encode};
+ghost use Rattle.instances.specs.Plan.{planned, nodesOf, valuesFrom, planOf, BitsRoom};
 ghost use Rattle.lookup.specs.Lookup.{valuesWidth};
-ghost use Rattle.writer.specs.Writer.{nodesOf, MeasuredFor, WroteEntries};
+ghost use Rattle.writer.specs.Writer.{entriesLength, fileLength, WroteEntries};
 use instances::ENTRY_WIDTH;
 use instances::HEAD_WIDTH;
 use instances::LISTED_WIDTH;
@@ -17,47 +17,39 @@ use schema::MOST_NODES;
 use schema::MOST_VARIABLES;
 use schema::Variable;
 
-// Which nodes have an entry, as bits, and how long the file is.
-pub struct Measured {
-    pub nodes: u64,
-    pub length: usize,
-}
-
 // How many entries were put, and the offset after them.
 struct EntriesPut {
     count: u8,
     end: usize,
 }
 
-fn widened(x: u8) -> usize
-    ensures { λ r. ⌜ r ≡ x ⌝ }
-{
-    x as usize
-}
-
-// Which nodes the choices reach, and how long the file of their instance is, whatever its values.
-// A wrong choice may reach a node that was passed or that there is not: such a node has no entry.
-pub fn measure(schema: &[u8], table: &[usize], choices: &[u8; MOST_NODES]) -> Measured
+// The bytes of the entries of these nodes.
+fn entries_length(schema: &[u8], table: &[usize], nodes: u64) -> usize
     requires { ⌜ Accepted (now schema) ⌝ }
     requires { ⌜ Tabled (now schema) (now table) ⌝ }
-    ensures { λ r. ⌜ MeasuredFor (schemaOf (now (schema .entry))) (now (choices .entry)) r ⌝ }
+    ensures { λ r. ⌜ AtMost 1280 (entriesLength (schemaOf (now (schema .entry))) nodes (length (schemaOf (now (schema .entry))))) r ⌝ }
 {
     let count = nodes::count_of(schema);
     let mut n: usize = 0;
-    let mut reached: u64 = 1;
-    let mut nodes: u64 = 0;
-    let mut length = HEAD_WIDTH;
+    let mut sum: usize = 0;
     while n < count {
-        if numbers::has(reached, n) {
-            length = length + ENTRY_WIDTH + lookup::values_width(schema, table, n);
-            reached = instances::reach(schema, table, n, widened(choices[n]), reached);
-            nodes = numbers::with(nodes, n);
+        if numbers::has(nodes, n) {
+            sum = sum + ENTRY_WIDTH + lookup::values_width(schema, table, n);
             n += 1;
         } else {
             n += 1;
         }
     }
-    Measured { nodes, length }
+    sum
+}
+
+// How long a file with an entry for each of these nodes is.
+pub fn file_length(schema: &[u8], table: &[usize], nodes: u64) -> usize
+    requires { ⌜ Accepted (now schema) ⌝ }
+    requires { ⌜ Tabled (now schema) (now table) ⌝ }
+    ensures { λ r. ⌜ AtMost mostBytes (fileLength (schemaOf (now (schema .entry))) nodes) r ⌝ }
+{
+    HEAD_WIDTH + entries_length(schema, table, nodes)
 }
 
 fn put_value(v: Variable, u: u32, out: &mut [u8], at: usize) -> usize

@@ -5,6 +5,9 @@ use borrow.Author.Needs.{needs}
 use Rattle.comparison.proofs.with_schema.Statement.{statement}
 use Rattle.comparison.proofs.with_schema.Tie as tie
 
+count-of-requires : tie.Need-count-of-requires
+count-of-requires c κs = search needs
+
 slice-aggregate-with-tables : tie.Need-slice-aggregate-with-tables
 slice-aggregate-with-tables c = search needs
 
@@ -33,6 +36,7 @@ pub with-schema-spec : {M : Type 1} → statement M
 with-schema-spec =
     tie.close
     (tie.spec
+    count-of-requires
     slice-aggregate-with-tables
     slice-aggregate-with-tables-2
     with-tables-requires

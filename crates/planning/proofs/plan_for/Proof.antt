@@ -1,4 +1,4 @@
--- The tables are cleared and swept; where the root is feasible, the choices are measured.
+-- The tables are cleared and swept; where the root is feasible, the choices tell which nodes are reached.
 -- Rests on what the sweep leaves, in Answer.
 use Rattle.planning.proofs.Answer.{swept-init, plans-some, plans-none}
 use borrow.Author.Needs.{needs}
@@ -11,8 +11,8 @@ sweep-nodes-requires c κs = (search needs, (search needs, (search needs, (searc
 array-read-if1 : tie.Need-array-read-if1
 array-read-if1 c = search needs
 
-measure-requires : tie.Need-measure-requires
-measure-requires c κs = search needs
+reached-nodes-requires : tie.Need-reached-nodes-requires
+reached-nodes-requires c κs = search needs
 
 same-length : tie.Need-same-length
 same-length c = search needs
@@ -32,7 +32,7 @@ plan-for-spec =
     (tie.spec
     sweep-nodes-requires
     array-read-if1
-    measure-requires
+    reached-nodes-requires
     same-length
     returns
     same-length-2

@@ -14,6 +14,9 @@ refusal-requires c κs = search needs
 enum-known-plan : tie.Need-enum-known-plan
 enum-known-plan c = search needs
 
+is-short-requires : tie.Need-is-short-requires
+is-short-requires c κs = search needs
+
 refusal-requires-2 : tie.Need-refusal-requires-2
 refusal-requires-2 c κs = search needs
 
@@ -42,6 +45,7 @@ write-plan-spec =
     enum-told
     refusal-requires
     enum-known-plan
+    is-short-requires
     refusal-requires-2
     returns
     write-planned-requires
