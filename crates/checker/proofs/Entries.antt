@@ -20,8 +20,8 @@ use Rattle.schema.proofs.Accepted.{sound}
 use Rattle.policies.specs.Policies.{Policy}
 use Rattle.instances.specs.Instance.{Entry, rightChoice}
 use Rattle.instances.proofs.Lengths.{value-width}
-use Rattle.instances.specs.File.{IH, due, noneBelow, valueWidth, values, entry, entries, instance, encodeValue, encodeValues, encodeEntry}
-use Rattle.lookup.specs.Lookup.{instanceOf, Readable, valuesWidth}
+use Rattle.instances.specs.File.{IH, due, noneBelow, valueWidth, valuesWidth, values, entry, entries, instance, encodeValue, encodeValues, encodeEntry}
+use Rattle.lookup.specs.Lookup.{instanceOf, Readable}
 use Rattle.instances.proofs.Lengths.{entry-length}
 use Rattle.instances.proofs.Trip.{EntryTook, entry-took}
 use Rattle.instances.proofs.RoundTrip.{read-is, node-below}

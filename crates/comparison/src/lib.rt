@@ -115,12 +115,6 @@ fn is_good_choice(
     is_better(schema, table, p, index, list, rows, n, x, y)
 }
 
-fn wide(x: u8) -> usize
-    ensures { λ r. ⌜ r ≡ x ⌝ }
-{
-    x as usize
-}
-
 // Whether the first instance is at least as good as the second at node n, by the flags of the nodes above it.
 fn is_good(
     schema: &[u8],
@@ -140,8 +134,8 @@ fn is_good(
     ensures { λ r. ⌜ r ≡ goodAt (schemaOf (now (schema .entry))) (better (schemaOf (now (schema .entry))) (selected (now (schema .entry)) (now (p .entry)) (now (list .entry)) rows)) (inSet (now (flags .entry))) n (getD (now (first .entry)) n 0) (getD (now (second .entry)) n 0) ⌝ }
 {
     if instances::chooses(schema, table, n) {
-        let x = wide(first[n]);
-        let y = wide(second[n]);
+        let x = fields::wide(first[n]);
+        let y = fields::wide(second[n]);
         return is_good_choice(schema, table, p, index, list, rows, n, x, y, flags);
     }
     order::all_in(schema, table, n, flags)

@@ -56,6 +56,13 @@ pub fn refusal(number: u8, file: u8, offset: usize) -> Answer
     }
 }
 
+// A byte as a position or a count.
+pub fn wide(x: u8) -> usize
+    ensures { λ r. ⌜ r ≡ x ⌝ }
+{
+    x as usize
+}
+
 fn join2(a: u8, b: u8) -> u32
     ensures { λ r. ⌜ r ≡ a * 256 + b ⌝ }
 {

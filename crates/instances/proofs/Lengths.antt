@@ -2,7 +2,7 @@
 -- Rests on the definitions of the encodings, and on a sound schema for the number of variables.
 use mathlib.Core.Path.{_≡_}
 use mathlib.Core.List.{List, [], _∷_, _++_}
-use Prim.Native.Nat.{_+_, _*_, _≤_}
+use Prim.Native.Nat.{ℕ, _+_, _*_, _≤_}
 use native.Mathlib.Omega.{arith}
 use lib.IntN.{ℤ}
 use lib.Signed.{mag}
@@ -21,6 +21,14 @@ pub width-most : (v : Variable) → valueWidth v ≤ 4
 unfolding valueWidth
 width-most (Number lo hi) = omega arith
 width-most (Listed size) = omega arith
+
+pub width-number : (v : Variable) {lo hi : ℤ} → v ≡ Number lo hi → 4 ≡ valueWidth v
+unfolding valueWidth
+width-number v e = rw e
+
+pub width-listed : (v : Variable) {size : ℕ} → v ≡ Listed size → 1 ≡ valueWidth v
+unfolding valueWidth
+width-listed v e = rw e
 
 pub value-width : (v : Variable) (x : ℤ) → length (encodeValue v x) ≡ valueWidth v
 unfolding encodeValue valueWidth

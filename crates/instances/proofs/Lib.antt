@@ -2,6 +2,7 @@ pub mod IsInstance
 pub mod Valid
 pub mod Lengths
 pub mod Planned
+pub mod Entries
 pub mod Trip
 pub mod RoundTrip
 pub mod Refusals

@@ -1,5 +1,5 @@
 -- The instance file (01, 'Instance', and 'Where a number arises').
-use Prim.Native.Nat.{ℕ, zero, suc}
+use Prim.Native.Nat.{ℕ, zero, suc, _+_}
 use mathlib.Core.List.{List, [], _∷_, _++_}
 use mathlib.Core.Bool.{Bool, true, cond, _&&_, _||_, not}
 use lib.ListN.{length}
@@ -49,6 +49,10 @@ listedWidth = 1
 unfoldable pub valueWidth : Variable → ℕ
 valueWidth (Number lo hi) = numberWidth
 valueWidth (Listed size) = listedWidth
+
+unfoldable pub valuesWidth : List Variable → ℕ
+valuesWidth [] = 0
+valuesWidth (v ∷ vs) = valueWidth v + valuesWidth vs
 
 unfoldable pub valueOf : Variable → ℕ → ℤ
 valueOf (Number lo hi) u = signed u

@@ -25,11 +25,10 @@ use Rattle.fields.proofs.Reading.{stepped}
 use Rattle.schema.specs.Schema.{Node, schemaOf, nodeAt, noVariable}
 use Rattle.schema.specs.Table.{Tabled, Accepted, NodeIn, AtMost}
 use Rattle.schema.specs.declared.Variable.{Variable}
-use Rattle.schema.specs.declared.Variable.the-variants.{Number, Listed}
 use Rattle.schema.proofs.Accepted.{sound}
 use Rattle.instances.specs.Instance.{Entry, inDomain, has}
-use Rattle.instances.specs.File.{IH, IN, valueWidth, instance, encodeValue, encodeValues, encodeEntry, encodeEntries}
-use Rattle.lookup.specs.Lookup.{entriesIn, instanceOf, Readable, valuesWidth, fillChoices, choicesOf}
+use Rattle.instances.specs.File.{IH, IN, valueWidth, valuesWidth, instance, encodeValue, encodeValues, encodeEntry, encodeEntries}
+use Rattle.lookup.specs.Lookup.{entriesIn, instanceOf, Readable, fillChoices, choicesOf}
 use Rattle.instances.proofs.IsInstance.{inDomains, RightEntry, Ascending, IsInstance}
 use Rattle.fields.proofs.At.{At, at-parts, at-inside, at-self, spell-read}
 use Rattle.instances.proofs.Valid.{has-mem}
@@ -46,14 +45,6 @@ readable-by g s {q = q} e h =
     record { end = q; reads = w .1 ∙ ap (λ (i : List Entry). got i q) (sym (ap entriesIn (w .1))) }
 
 -- ---- the bytes of a node's values
-
-pub width-number : (v : Variable) {lo hi : ℤ} → v ≡ Number lo hi → 4 ≡ valueWidth v
-unfolding valueWidth
-width-number v e = rw e
-
-pub width-listed : (v : Variable) {size : ℕ} → v ≡ Listed size → 1 ≡ valueWidth v
-unfolding valueWidth
-width-listed v e = rw e
 
 pub record Summed (x : Node) (k r : ℕ) : Type 0 where
   pub most : r ≤ 4 * k

@@ -1,13 +1,12 @@
 -- What the layers above look up in an accepted instance file.
-use Prim.Native.Nat.{ℕ, _+_}
+use Prim.Native.Nat.{ℕ}
 use mathlib.Core.Path.{_≡_}
 use mathlib.Core.List.{List, [], _∷_}
 use lib.ListN.{set, replicate}
 use Rattle.fields.specs.Reading.{Got, got, bad}
 use Rattle.schema.specs.Schema.{Node}
-use Rattle.schema.specs.declared.Variable.{Variable}
 use Rattle.instances.specs.Instance.{Entry}
-use Rattle.instances.specs.File.{valueWidth, instance}
+use Rattle.instances.specs.File.{instance}
 
 -- the entries of a file: none where it is refused
 abbrev pub entriesIn : Got (List Entry) → List Entry
@@ -21,11 +20,6 @@ instanceOf g s = entriesIn (instance g s)
 pub record Readable (g : List Node) (s : List ℕ) : Type 0 where
   pub end : ℕ
   pub reads : instance g s ≡ got (instanceOf g s) end
-
--- the bytes of a node's values
-unfoldable pub valuesWidth : List Variable → ℕ
-valuesWidth [] = 0
-valuesWidth (v ∷ vs) = valueWidth v + valuesWidth vs
 
 -- place n of the table: the choice of node n's entry, 255 where it has none
 unfoldable pub fillChoices : List ℕ → List Entry → List ℕ

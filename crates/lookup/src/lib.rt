@@ -2,8 +2,8 @@
 ghost use mathlib.Core.Path.{_≡_};
 ghost use Rattle.schema.specs.Schema.{schemaOf, nodeAt};
 ghost use Rattle.schema.specs.Table.{Tabled, Accepted, NodeIn, AtMost};
-ghost use Rattle.instances.specs.File.{valueWidth};
-ghost use Rattle.lookup.specs.Lookup.{instanceOf, Readable, valuesWidth, choicesOf};
+ghost use Rattle.instances.specs.File.{valueWidth, valuesWidth};
+ghost use Rattle.lookup.specs.Lookup.{instanceOf, Readable, choicesOf};
 use instances::ENTRY_WIDTH;
 use instances::HEAD_WIDTH;
 use instances::LISTED_WIDTH;

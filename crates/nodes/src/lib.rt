@@ -24,18 +24,12 @@ pub const FEWEST_NODES: usize = 4;
 
 pub const FEWEST_TABLE_SLOTS: usize = NODE_SLOTS * FEWEST_NODES;
 
-fn wide(x: u8) -> usize
-    ensures { λ r. ⌜ r ≡ x ⌝ }
-{
-    x as usize
-}
-
 // The number of nodes.
 pub fn count_of(s: &[u8]) -> usize
     requires { ⌜ Accepted (now s) ⌝ }
     ensures { λ r. ⌜ AtMost mostNodes (length (schemaOf (now (s .entry)))) r ⌝ }
 {
-    wide(s[2])
+    fields::wide(s[2])
 }
 
 // How many bytes the variable at a place has, by its type.
@@ -75,8 +69,8 @@ pub fn fill_table(s: &[u8], table: &mut [usize])
     let mut at: usize = 3;
     while n < count {
         table[NODE_SLOTS * n] = at;
-        let c = wide(s[at + 3]);
-        let v = wide(s[at + 4 + c]);
+        let c = fields::wide(s[at + 3]);
+        let v = fields::wide(s[at + 4 + c]);
         at = fill_variables(s, n, v, at + 5 + c, table);
         n += 1;
     }
@@ -97,7 +91,7 @@ pub fn successor_count(s: &[u8], table: &[usize], n: usize) -> usize
     ensures { λ r. ⌜ AtMost 8 (length (nodeAt (schemaOf (now (s .entry))) n .successors)) r ⌝ }
 {
     let at = table[NODE_SLOTS * n];
-    wide(s[at + 3])
+    fields::wide(s[at + 3])
 }
 
 // Node n's successor j.
@@ -107,7 +101,7 @@ pub fn successor_of(s: &[u8], table: &[usize], n: usize, j: usize) -> usize
     ensures { λ r. ⌜ SuccessorIs (schemaOf (now (s .entry))) n j r ⌝ }
 {
     let at = table[NODE_SLOTS * n];
-    wide(s[at + 4 + j])
+    fields::wide(s[at + 4 + j])
 }
 
 // The number of node n's variables.
@@ -116,8 +110,8 @@ pub fn variable_count(s: &[u8], table: &[usize], n: usize) -> usize
     ensures { λ r. ⌜ AtMost 4 (length (nodeAt (schemaOf (now (s .entry))) n .variables)) r ⌝ }
 {
     let at = table[NODE_SLOTS * n];
-    let c = wide(s[at + 3]);
-    wide(s[at + 4 + c])
+    let c = fields::wide(s[at + 3]);
+    fields::wide(s[at + 4 + c])
 }
 
 // Node n's variable k.

@@ -4,4 +4,5 @@ pub mod Picking
 pub mod Node
 pub mod Sweep
 pub mod Reaching
+pub mod Measuring
 pub mod Answer

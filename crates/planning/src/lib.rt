@@ -1,5 +1,5 @@
 // The plan of an instance for some of a file's policies: which nodes are feasible, from the highest to 0, what each chooses
-// and its least values, then which nodes are reached.
+// and its least values, then which nodes are reached and how long the instance's file is.
 ghost use mathlib.Core.Path.{_≡_};
 ghost use mathlib.Core.Bool.{true};
 ghost use Prim.Native.Nat.{_+_, _<_, _≤_};
@@ -7,17 +7,20 @@ ghost use lib.ListN.{length, take, replicate};
 ghost use Rattle.order.specs.Order.{rowSlot};
 ghost use Rattle.policies.specs.Policies.{mostPolicies};
 ghost use Rattle.schema.specs.Schema.{mostNodes, schemaOf, nodeAt};
-ghost use Rattle.schema.specs.Table.{NodeIn, Accepted, Tabled};
+ghost use Rattle.schema.specs.Table.{NodeIn, Accepted, Tabled, AtMost};
 ghost use Rattle.policies.specs.Pass.{selected, Selected};
 ghost use Rattle.policies.specs.Index.{IndexIn};
 ghost use Rattle.instances.specs.Instance.{chooses};
+ghost use Rattle.instances.specs.File.{mostBytes};
 ghost use Rattle.instances.specs.Plan.{BitsRoom};
 ghost use Rattle.model.specs.Reconciling.{combined, reconciled};
 ghost use Rattle.conditions.specs.Held.{recordOf};
 ghost use Rattle.conditions.specs.Rules.{rulesAt, RulesAt, BytesAt};
-ghost use Rattle.planning.specs.Plan.{Plans};
+ghost use Rattle.planning.specs.Plan.{Plans, entriesLength, fileLength};
 ghost use Rattle.planning.specs.Sweep.{leastOf, LeastIn, Columns, Ranked, RowFilled, SuccessorsIn, Chosen, NodePlanned, Swept, Reached};
 use conditions::Conditions;
+use instances::ENTRY_WIDTH;
+use instances::HEAD_WIDTH;
 use order::RANKS;
 use policies::MOST_POLICIES;
 use schema::MOST_NODES;
@@ -284,12 +287,6 @@ fn sweep_nodes(
     }
 }
 
-fn wide(x: u8) -> usize
-    ensures { λ r. ⌜ r ≡ x ⌝ }
-{
-    x as usize
-}
-
 // Which nodes the choices reach. A wrong choice may reach a node that was passed or that there is not: such a node has no
 // entry.
 fn reached_nodes(schema: &[u8], table: &[usize], choices: &[u8; MOST_NODES]) -> u64
@@ -303,7 +300,7 @@ fn reached_nodes(schema: &[u8], table: &[usize], choices: &[u8; MOST_NODES]) -> 
     let mut passed: u64 = 0;
     while n < count {
         if numbers::has(reached, n) {
-            reached = instances::reach(schema, table, n, wide(choices[n]), reached);
+            reached = instances::reach(schema, table, n, fields::wide(choices[n]), reached);
             passed = numbers::with(passed, n);
             n += 1;
         } else {
@@ -355,4 +352,33 @@ pub fn plan_for(
         };
     }
     Plan::Infeasible
+}
+
+// The bytes of the entries of these nodes.
+fn entries_length(schema: &[u8], table: &[usize], nodes: u64) -> usize
+    requires { ⌜ Accepted (now schema) ⌝ }
+    requires { ⌜ Tabled (now schema) (now table) ⌝ }
+    ensures { λ r. ⌜ AtMost 1280 (entriesLength (schemaOf (now (schema .entry))) nodes (length (schemaOf (now (schema .entry))))) r ⌝ }
+{
+    let count = nodes::count_of(schema);
+    let mut n: usize = 0;
+    let mut sum: usize = 0;
+    while n < count {
+        if numbers::has(nodes, n) {
+            sum = sum + ENTRY_WIDTH + lookup::values_width(schema, table, n);
+            n += 1;
+        } else {
+            n += 1;
+        }
+    }
+    sum
+}
+
+// How long a file with an entry for each of these nodes is.
+pub fn file_length(schema: &[u8], table: &[usize], nodes: u64) -> usize
+    requires { ⌜ Accepted (now schema) ⌝ }
+    requires { ⌜ Tabled (now schema) (now table) ⌝ }
+    ensures { λ r. ⌜ AtMost mostBytes (fileLength (schemaOf (now (schema .entry))) nodes) r ⌝ }
+{
+    HEAD_WIDTH + entries_length(schema, table, nodes)
 }

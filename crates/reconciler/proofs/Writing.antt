@@ -21,9 +21,8 @@ use Rattle.schema.proofs.Accepted.{sound}
 use Rattle.instances.specs.Instance.{Entry}
 use Rattle.instances.specs.File.{mostBytes, encode}
 use Rattle.instances.specs.Plan.{planned, nodesOf, planOf, valuesSlot, BitsRoom}
-use Rattle.writer.specs.Writer.{fileLength}
-use Rattle.writer.proofs.Measuring.{file-length-is, file-length-most}
-use Rattle.planning.specs.Plan.{planFor, Plans}
+use Rattle.planning.specs.Plan.{planFor, Plans, fileLength}
+use Rattle.planning.proofs.Measuring.{file-length-is, file-length-most}
 use Rattle.planning.specs.declared.Plan.{Plan}
 use Rattle.planning.specs.declared.Plan.the-variants.{Infeasible, Feasible}
 use Rattle.calls.specs.Calls.{given}

@@ -7,9 +7,8 @@ ghost use Rattle.schema.specs.Table.{Accepted, Tabled};
 ghost use Rattle.policies.specs.Pass.{selected, Selected};
 ghost use Rattle.policies.specs.Index.{IndexIn};
 ghost use Rattle.instances.specs.Plan.{BitsRoom};
-ghost use Rattle.writer.specs.Writer.{fileLength};
 ghost use Rattle.model.specs.Reconciling.{reconciled};
-ghost use Rattle.planning.specs.Plan.{Plans};
+ghost use Rattle.planning.specs.Plan.{Plans, fileLength};
 ghost use Rattle.calls.specs.Inputs.{withInForce};
 ghost use Rattle.inputs.specs.Inputs.{RoomFor};
 ghost use Rattle.calls.specs.Calls.{given, reconciling};
@@ -38,7 +37,7 @@ fn is_short(schema: &[u8], table: &[usize], nodes: u64, room: usize) -> bool
     ensures { λ r. ⌜ r ≡ ltb room (fileLength (schemaOf (now (schema .entry))) nodes) ⌝ }
 {
     if room < MOST_BYTES {
-        return room < writer::file_length(schema, table, nodes);
+        return room < planning::file_length(schema, table, nodes);
     }
     false
 }

@@ -1,5 +1,5 @@
 -- Writing at a growing position: with the rest put from here, the buffer is what it shall be.
--- Rests on the laws of `put` of the crate fields, on Entries.antt, and on a sound schema for the number of entries.
+-- Rests on the laws of `put` of the crate fields, on the entries of a plan, and on a sound schema for the number of entries.
 use mathlib.Core.Path.{_≡_, refl, ap, sym, _∙_, subst}
 use mathlib.Core.List.{List, [], _∷_, _++_, append-assoc}
 use Prim.Native.Nat.{ℕ, suc, _+_, _*_, _-_, _%_, _^_, _≤_, _<_}
@@ -22,15 +22,12 @@ use Rattle.schema.specs.declared.Variable.the-variants.{Number, Listed}
 use Rattle.schema.proofs.Accepted.{sound}
 use Rattle.schema.proofs.Access.{node-small}
 use Rattle.instances.specs.Instance.{Entry}
-use Rattle.instances.specs.File.{IH, IN, valueWidth, valueOf, encodeValue, encodeValues, encodeEntry, encodeEntries, encode}
+use Rattle.instances.specs.File.{IH, IN, valueWidth, valuesWidth, valueOf, encodeValue, encodeValues, encodeEntry, encodeEntries, encode}
 use Rattle.instances.specs.Plan.{planned, nodesOf, valuesFrom, planOf, BitsRoom}
+use Rattle.instances.proofs.Lengths.{width-number, width-listed}
 use Rattle.instances.proofs.Planned.{from-few}
+use Rattle.instances.proofs.Entries.{valuesBytes, values-length, planned-length, head-length, Own, own, AscendingFrom, none, more, planned-ascending, nodes-some, nodes-lowest, nodes-others}
 use Rattle.instances.proofs.Node.{vars-more}
-use Rattle.lookup.specs.Lookup.{valuesWidth}
-use Rattle.lookup.proofs.Lookup.{width-number, width-listed}
-use Rattle.writer.specs.Writer.{WroteEntries}
-use Rattle.writer.specs.declared.EntriesPut.{EntriesPut}
-use Rattle.writer.proofs.Entries.{valuesBytes, values-length, planned-length, head-length, Own, own, AscendingFrom, none, more, planned-ascending, nodes-some, nodes-lowest, nodes-others}
 
 -- ---- a value
 
@@ -210,14 +207,43 @@ module _ (g : List Node) (plan : ℕ → Entry) (mine : Own plan) (small : lengt
             counts = k;
           })
 
-  none-left : left ≤ 0 → WroteEntries g (planned g plan) b₀ b (record { count = count; end = at })
+  none-left : left ≤ 0 → Wrote b₀ 3 (encodeEntries g (planned g plan)) b at × (count ≡ length (planned g plan))
   unfolding encodeEntries
   none-left h = go (w .ascending) (w .nodes) (w .done) (w .counts)
     where
       go : {rest : List Entry} → AscendingFrom plan (length g) (w .low) rest → left ≡ nodesOf rest → Putting b₀ 3 (encodeEntries g (planned g plan)) b at (encodeEntries g rest)
-          → count + length rest ≡ length (planned g plan) → WroteEntries g (planned g plan) b₀ b (record { count = count; end = at })
-      go none e d k = record { wrote = putting-exit d; counts = sym (add-zero count) ∙ k }
+          → count + length rest ≡ length (planned g plan) → Wrote b₀ 3 (encodeEntries g (planned g plan)) b at × (count ≡ length (planned g plan))
+      go none e d k = (putting-exit d, sym (add-zero count) ∙ k)
       go (more m {es} i j f) e d k = absurd (let z = nodes-some plan mine small m es j in omega arith)
+
+-- ---- the head before them
+
+-- a run, and then what stands before it
+put-before : (b hd xs : List ℕ) {k : ℕ} → length hd ≡ k → k ≤ length b → put (put b k xs) 0 hd ≡ put b 0 (hd ++ xs)
+unfolding put
+put-before b hd xs {k} e h =
+    let rest = drop (k + length xs) b in
+    let z : drop (0 + length hd) (take k b ++ xs ++ rest) ≡ xs ++ rest =
+    ap (λ (j : ℕ). drop j (take k b ++ xs ++ rest)) (zero-add (length hd) ∙ e) ∙ ap (drop k) (append-assoc (take k b) xs rest) ∙ drop-at (take k b) (xs ++ rest) k (length-take-le k b h) in
+    let y : k + length xs ≡ 0 + length (hd ++ xs) = omega (arith, length-append hd xs) in
+    ap (λ (l : List ℕ). hd ++ l) z ∙ sym (append-assoc hd xs rest) ∙ ap (λ (j : ℕ). hd ++ xs ++ drop j b) y
+
+head-wrote : (g : List Node) (i : List Entry) (b : List ℕ) {c c₁ d : List ℕ} {count end : ℕ} → Wrote b 3 (encodeEntries g i) c end → count ≡ length i → length (encode g i) ≤ length b → length c ≡ length b
+    → c₁ ≡ put c 0 IH → d ≡ put c₁ 2 (spell 1 count) → Wrote b 0 (encode g i) d end
+unfolding encode
+head-wrote g i b {c} {c₁} {d} {count} w n h l e₁ e₂ =
+    let mb = spell 1 count in
+    let eb = encodeEntries g i in
+    let ln : length (IH ++ mb) ≡ 3 = omega (arith, length-append IH mb, spell-length 1 count) in
+    let room = head-length g i in
+    let file : IH ++ mb ++ eb ≡ IH ++ spell 1 (length i) ++ eb = ap (λ (k : ℕ). IH ++ spell 1 k ++ eb) n in
+    record {
+      holds = e₂ ∙ ap (λ (y : List ℕ). put y 2 mb) e₁ ∙ put-put c IH mb 0 (omega arith) ∙ ap (λ (y : List ℕ). put y 0 (IH ++ mb)) (w .holds)
+          ∙ put-before b (IH ++ mb) eb ln (omega arith) ∙ ap (put b 0) file;
+      next = omega (arith, w .next, length-append (IH ++ mb) eb, ap length file);
+    }
+
+-- ---- under an accepted schema
 
 module _ (f choices bits b₀ : List ℕ) (left at count : ℕ) (b : List ℕ) (w : PuttingEntries (schemaOf f) (planOf (schemaOf f) choices bits) b₀ left at count b) (a : Accepted f) (x : Bytes f) where
   abbrev g : List Node
@@ -229,8 +255,17 @@ module _ (f choices bits b₀ : List ℕ) (left at count : ℕ) (b : List ℕ) (
   few : length g ≤ 64
   few = sound f x (a .some) .few
 
-  pub entries-exit : left ≤ 0 → WroteEntries (schemaOf f) (planned (schemaOf f) (planOf (schemaOf f) choices bits)) b₀ b (record { count = count; end = at })
-  entries-exit h = none-left g plan (own g choices bits) few b₀ left at count b w h
+  module _ (r : length (encode (schemaOf f) (planned (schemaOf f) (planOf (schemaOf f) choices bits))) ≤ length b₀) where
+    pub mark-room : 2 ≤ length b
+    mark-room = omega (arith, w .done .long, head-length g (planned g plan))
+
+    pub count-room : (c : List ℕ) → length c ≡ length b → 3 ≤ length c
+    count-room c e = omega (arith, w .done .long, head-length g (planned g plan))
+
+    pub file-wrote : {c₁ d : List ℕ} → left ≤ 0 → c₁ ≡ put b 0 IH → d ≡ put c₁ 2 (spell 1 count) → Wrote b₀ 0 (encode (schemaOf f) (planned (schemaOf f) (planOf (schemaOf f) choices bits))) d at
+    file-wrote h e₁ e₂ =
+        let k = none-left g plan (own g choices bits) few b₀ left at count b w h in
+        head-wrote g (planned g plan) b₀ (k .0) (k .1) r (w .done .long) e₁ e₂
 
   module _ {n : ℕ} (p : 0 < left) (e : Lowest 64 left n) where
     first : First g plan b₀ left at count b n
@@ -270,33 +305,3 @@ module _ (f choices bits b₀ : List ℕ) (left at count : ℕ) (b : List ℕ) (
           done = putting-step (encodeEntry g (plan n)) (encodeEntries g (first .others)) (first .done) (let z = entries-room h in omega arith) k ld;
           counts = omega (arith, first .counts);
         }
-
--- ---- the file
-
--- a run, and then what stands before it
-put-before : (b hd xs : List ℕ) {k : ℕ} → length hd ≡ k → k ≤ length b → put (put b k xs) 0 hd ≡ put b 0 (hd ++ xs)
-unfolding put
-put-before b hd xs {k} e h =
-    let rest = drop (k + length xs) b in
-    let z : drop (0 + length hd) (take k b ++ xs ++ rest) ≡ xs ++ rest =
-    ap (λ (j : ℕ). drop j (take k b ++ xs ++ rest)) (zero-add (length hd) ∙ e) ∙ ap (drop k) (append-assoc (take k b) xs rest) ∙ drop-at (take k b) (xs ++ rest) k (length-take-le k b h) in
-    let y : k + length xs ≡ 0 + length (hd ++ xs) = omega (arith, length-append hd xs) in
-    ap (λ (l : List ℕ). hd ++ l) z ∙ sym (append-assoc hd xs rest) ∙ ap (λ (j : ℕ). hd ++ xs ++ drop j b) y
-
-pub head-room : (g : List Node) (i : List Entry) {room : ℕ} → length (encode g i) ≤ room → 3 ≤ room
-head-room g i h = omega (arith, head-length g i)
-
-pub file-wrote : (g : List Node) (i : List Entry) (b : List ℕ) {c c₁ d : List ℕ} {p : EntriesPut} → WroteEntries g i b c p → length (encode g i) ≤ length b → length c ≡ length b → c₁ ≡ put c 0 IH
-    → d ≡ put c₁ 2 (spell 1 (p .count)) → Wrote b 0 (encode g i) d (p .end)
-unfolding encode
-file-wrote g i b {c} {c₁} {d} {p} w h l e₁ e₂ =
-    let mb = spell 1 (p .count) in
-    let eb = encodeEntries g i in
-    let ln : length (IH ++ mb) ≡ 3 = omega (arith, length-append IH mb, spell-length 1 (p .count)) in
-    let room = head-length g i in
-    let file : IH ++ mb ++ eb ≡ IH ++ spell 1 (length i) ++ eb = ap (λ (k : ℕ). IH ++ spell 1 k ++ eb) (w .counts) in
-    record {
-      holds = e₂ ∙ ap (λ (y : List ℕ). put y 2 mb) e₁ ∙ put-put c IH mb 0 (omega arith) ∙ ap (λ (y : List ℕ). put y 0 (IH ++ mb)) (w .wrote .holds)
-          ∙ put-before b (IH ++ mb) eb ln (omega arith) ∙ ap (put b 0) file;
-      next = omega (arith, w .wrote .next, length-append (IH ++ mb) eb, ap length file);
-    }

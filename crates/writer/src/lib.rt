@@ -4,11 +4,9 @@ ghost use Prim.Native.Nat.{_+_, _*_, _≤_};
 ghost use lib.ListN.{length};
 ghost use Rattle.fields.specs.Writing.{Wrote};
 ghost use Rattle.schema.specs.Schema.{schemaOf, nodeAt};
-ghost use Rattle.schema.specs.Table.{Tabled, Accepted, NodeIn, AtMost};
-ghost use Rattle.instances.specs.File.{mostBytes, valueWidth, valueOf, encodeValue, encodeValues, encodeEntry, encode};
+ghost use Rattle.schema.specs.Table.{Tabled, Accepted, NodeIn};
+ghost use Rattle.instances.specs.File.{valueWidth, valuesWidth, valueOf, encodeValue, encodeValues, encodeEntry, encode};
 ghost use Rattle.instances.specs.Plan.{planned, nodesOf, valuesFrom, planOf, BitsRoom};
-ghost use Rattle.lookup.specs.Lookup.{valuesWidth};
-ghost use Rattle.writer.specs.Writer.{entriesLength, fileLength, WroteEntries};
 use instances::ENTRY_WIDTH;
 use instances::HEAD_WIDTH;
 use instances::LISTED_WIDTH;
@@ -16,41 +14,6 @@ use instances::NUMBER_WIDTH;
 use schema::MOST_NODES;
 use schema::MOST_VARIABLES;
 use schema::Variable;
-
-// How many entries were put, and the offset after them.
-struct EntriesPut {
-    count: u8,
-    end: usize,
-}
-
-// The bytes of the entries of these nodes.
-fn entries_length(schema: &[u8], table: &[usize], nodes: u64) -> usize
-    requires { ⌜ Accepted (now schema) ⌝ }
-    requires { ⌜ Tabled (now schema) (now table) ⌝ }
-    ensures { λ r. ⌜ AtMost 1280 (entriesLength (schemaOf (now (schema .entry))) nodes (length (schemaOf (now (schema .entry))))) r ⌝ }
-{
-    let count = nodes::count_of(schema);
-    let mut n: usize = 0;
-    let mut sum: usize = 0;
-    while n < count {
-        if numbers::has(nodes, n) {
-            sum = sum + ENTRY_WIDTH + lookup::values_width(schema, table, n);
-            n += 1;
-        } else {
-            n += 1;
-        }
-    }
-    sum
-}
-
-// How long a file with an entry for each of these nodes is.
-pub fn file_length(schema: &[u8], table: &[usize], nodes: u64) -> usize
-    requires { ⌜ Accepted (now schema) ⌝ }
-    requires { ⌜ Tabled (now schema) (now table) ⌝ }
-    ensures { λ r. ⌜ AtMost mostBytes (fileLength (schemaOf (now (schema .entry))) nodes) r ⌝ }
-{
-    HEAD_WIDTH + entries_length(schema, table, nodes)
-}
 
 fn put_value(v: Variable, u: u32, out: &mut [u8], at: usize) -> usize
     requires { ⌜ at + valueWidth v ≤ length (now out) ⌝ }
@@ -114,35 +77,8 @@ fn put_entry(
     put_values(schema, table, n, bits, out, from + ENTRY_WIDTH)
 }
 
-// The entries of these nodes from byte 3 on, the lowest first.
-fn put_entries(
-    schema: &[u8],
-    table: &[usize],
-    nodes: u64,
-    choices: &[u8; MOST_NODES],
-    bits: &[u32],
-    out: &mut [u8],
-) -> EntriesPut
-    requires { ⌜ Accepted (now schema) ⌝ }
-    requires { ⌜ Tabled (now schema) (now table) ⌝ }
-    requires { ⌜ BitsRoom (now schema) (now bits) ⌝ }
-    requires { ⌜ nodes ≡ nodesOf (planned (schemaOf (now schema)) (planOf (schemaOf (now schema)) (now choices) (now bits))) ⌝ }
-    requires { ⌜ length (encode (schemaOf (now schema)) (planned (schemaOf (now schema)) (planOf (schemaOf (now schema)) (now choices) (now bits)))) ≤ length (now out) ⌝ }
-    ensures { λ r. ⌜ WroteEntries (schemaOf (now (schema .entry))) (planned (schemaOf (now (schema .entry))) (planOf (schemaOf (now (schema .entry))) (now (choices .entry)) (now (bits .entry)))) (now (out .entry)) (now (out .exit)) r ⌝ }
-{
-    let mut left = nodes;
-    let mut at = HEAD_WIDTH;
-    let mut count: u8 = 0;
-    while 0 < left {
-        let n = numbers::lowest(left);
-        at = put_entry(schema, table, n, choices, bits, out, at);
-        left = numbers::turned_bit(left, n);
-        count += 1;
-    }
-    EntriesPut { count, end: at }
-}
-
-// The file of the plan that the arrays hold, whose nodes are these, at the start of a buffer that has room for it.
+// The file of the plan that the arrays hold, whose nodes are these, at the start of a buffer that has room for it: the
+// entries from byte 3 on, the lowest node's first, then the head before them.
 pub fn write_planned(
     schema: &[u8],
     table: &[usize],
@@ -158,8 +94,16 @@ pub fn write_planned(
     requires { ⌜ length (encode (schemaOf (now schema)) (planned (schemaOf (now schema)) (planOf (schemaOf (now schema)) (now choices) (now bits)))) ≤ length (now out) ⌝ }
     ensures { λ r. ⌜ Wrote (now (out .entry)) 0 (encode (schemaOf (now (schema .entry))) (planned (schemaOf (now (schema .entry))) (planOf (schemaOf (now (schema .entry))) (now (choices .entry)) (now (bits .entry))))) (now (out .exit)) r ⌝ }
 {
-    let put = put_entries(schema, table, nodes, choices, bits, out);
+    let mut left = nodes;
+    let mut at = HEAD_WIDTH;
+    let mut count: u8 = 0;
+    while 0 < left {
+        let n = numbers::lowest(left);
+        at = put_entry(schema, table, n, choices, bits, out, at);
+        left = numbers::turned_bit(left, n);
+        count += 1;
+    }
     writing::put_mark(out, 0, b"IH");
-    writing::put_u8(out, 2, put.count);
-    put.end
+    writing::put_u8(out, 2, count);
+    at
 }

@@ -1,7 +1,7 @@
 -- One return for each type.
 -- Rests on the definition of `valueWidth`.
 use borrow.Author.Needs.{needs}
-use Rattle.lookup.proofs.Lookup.{width-number, width-listed}
+use Rattle.instances.proofs.Lengths.{width-number, width-listed}
 use Rattle.lookup.proofs.value_width.Statement.{statement}
 use Rattle.lookup.proofs.value_width.Tie as tie
 

@@ -3,9 +3,9 @@
 use borrow.Author.Needs.{needs}
 use Prim.Native.Nat.{_-_}
 use Rattle.schema.specs.Schema.{schemaOf}
-use Rattle.writer.proofs.Measuring.{Summing, summing-init, summing-small, summing-node, summing-head-fits, summing-fits, summing-take, summing-skip, summing-exit}
-use Rattle.writer.proofs.entries_length.Statement.{statement}
-use Rattle.writer.proofs.entries_length.Tie as tie
+use Rattle.planning.proofs.Measuring.{Summing, summing-init, summing-small, summing-node, summing-head-fits, summing-fits, summing-take, summing-skip, summing-exit}
+use Rattle.planning.proofs.entries_length.Statement.{statement}
+use Rattle.planning.proofs.entries_length.Tie as tie
 
 abbrev Inv-loop : tie.InvT-loop
 Inv-loop schema table nodes count n₀ sum₀ n sum = Summing (schemaOf schema) nodes n sum

@@ -20,11 +20,10 @@ use Rattle.numbers.specs.Lowest.{Lowest}
 use Rattle.numbers.proofs.Bits.{no-bit, with-bit, turned-with, tz-bit, tz-least}
 use Rattle.schema.specs.Schema.{Node, nodeAt}
 use Rattle.schema.specs.declared.Variable.{Variable}
 use Rattle.instances.specs.Instance.{Entry}
-use Rattle.instances.specs.File.{IH, reached, valueOf, encodeValue, encodeValues, encodeEntry, encodeEntries, encode}
+use Rattle.instances.specs.File.{IH, reached, valuesWidth, valueOf, encodeValue, encodeValues, encodeEntry, encodeEntries, encode}
 use Rattle.instances.specs.Plan.{plannedFrom, planned, nodesOf, valuesFrom, planOf}
 use Rattle.instances.proofs.Lengths.{value-width, entry-length}
-use Rattle.lookup.specs.Lookup.{valuesWidth}
 
 -- ---- bytes
 

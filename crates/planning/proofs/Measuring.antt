@@ -1,5 +1,5 @@
 -- How long the file of some nodes is: the sum node by node, and that a plan's file is so long for the nodes that it reaches.
--- Rests on Entries.antt, on the laws of bits of the crate numbers, and on a sound schema for the greatest length.
+-- Rests on the entries of a plan, on the laws of bits of the crate numbers, and on a sound schema for the greatest length.
 use mathlib.Core.Path.{_≡_, refl, ap, sym, _∙_}
 use mathlib.Core.Bool.{Bool, true, false, cond, _||_}
 use mathlib.Core.List.{List, []}
@@ -17,12 +17,11 @@ use Rattle.schema.specs.Schema.{Node, schemaOf, nodeAt}
 use Rattle.schema.specs.Table.{Tabled, NodeIn, AtMost}
 use Rattle.schema.proofs.Sound.{Sound}
 use Rattle.instances.specs.Instance.{Entry}
-use Rattle.instances.specs.File.{mostBytes, encodeEntry, encodeEntries, encode}
+use Rattle.instances.specs.File.{mostBytes, valuesWidth, encodeEntry, encodeEntries, encode}
 use Rattle.instances.specs.Plan.{planned, nodesOf, planOf}
 use Rattle.instances.proofs.Lengths.{entry-most}
-use Rattle.lookup.specs.Lookup.{valuesWidth}
-use Rattle.writer.specs.Writer.{entriesLength, fileLength}
-use Rattle.writer.proofs.Entries.{planned-length, head-length, Own, own, AscendingFrom, none, more, planned-ascending, nodes-from}
+use Rattle.instances.proofs.Entries.{planned-length, head-length, Own, own, AscendingFrom, none, more, planned-ascending, nodes-from}
+use Rattle.planning.specs.Plan.{entriesLength, fileLength}
 
 -- ---- the sum so far
 

@@ -1,9 +1,9 @@
 -- The head's three bytes, and the entries.
 -- Rests on file-sum.
-use Rattle.writer.proofs.Measuring.{file-sum}
+use Rattle.planning.proofs.Measuring.{file-sum}
 use borrow.Author.Needs.{needs}
-use Rattle.writer.proofs.file_length.Statement.{statement}
-use Rattle.writer.proofs.file_length.Tie as tie
+use Rattle.planning.proofs.file_length.Statement.{statement}
+use Rattle.planning.proofs.file_length.Tie as tie
 
 entries-length-requires : tie.Need-entries-length-requires
 entries-length-requires c κs = search needs
