@@ -24,11 +24,6 @@ use Rattle.comparison.specs.Comparison.{Ranking}
 pub ranking-by : (schema p index list : List ℕ) {rows : ℕ} → IndexIn schema p index → Selected schema p list rows → Ranking schema p index list rows
 ranking-by schema p index list w k = record { index-is = w; listed = k }
 
-pub verdict-by : (g : List Node) (ps : List Policy) (s t : List ℕ) {x y : Bool} {r : ℕ} → x ≡ asGood g ps (instanceOf g s) (instanceOf g t) → y ≡ asGood g ps (instanceOf g t) (instanceOf g s)
-    → r ≡ verdict x y → r ≡ compared g ps (instanceOf g s) (instanceOf g t)
-unfolding compared
-verdict-by g ps s t e f q = q ∙ ap₂ verdict e f
-
 module _ (g : List Node) (ps : List Policy) (s t : List ℕ) {x : Step} (e : x ≡ stepOf (instance g s)) {r : Answer} where
   pub first-bad : {n o : ℕ} → x ≡ Bad n o → r ≡ refusal n 4 o → r ≡ comparingInForce g ps s t
   unfolding comparingInForce
@@ -39,8 +34,9 @@ module _ (g : List Node) (ps : List Policy) (s t : List ℕ) {x : Step} (e : x �
     unfolding comparingInForce judged
     second-bad k i = rw (readable-by g s e h .reads) (judged-bad 5 (instance g t) f k _ i)
 
-    pub both-read : {u v : ℕ} → y ≡ Next u → v ≡ compared g ps (instanceOf g s) (instanceOf g t) → r ≡ success v → r ≡ comparingInForce g ps s t
-    unfolding comparingInForce judged
-    both-read k w i = rw (readable-by g s e h .reads, readable-by g t f k .reads) (i ∙ ap success w)
+    pub both-read : {u v : ℕ} {b c : Bool} → y ≡ Next u → b ≡ asGood g ps (instanceOf g s) (instanceOf g t) → c ≡ asGood g ps (instanceOf g t) (instanceOf g s) → v ≡ verdict b c → r ≡ success v
+        → r ≡ comparingInForce g ps s t
+    unfolding comparingInForce judged compared
+    both-read k l m w i = rw (readable-by g s e h .reads, readable-by g t f k .reads) (i ∙ ap success (w ∙ ap₂ verdict l m))
 
 pub ruleset instances-read = (first-bad, second-bad, both-read)

@@ -10,7 +10,7 @@ ghost use Rattle.policies.specs.Pass.{selected};
 ghost use Rattle.policies.specs.Index.{PolicyIn, policyOf};
 ghost use Rattle.lookup.specs.Lookup.{instanceOf, Readable};
 ghost use Rattle.model.specs.Order.{better, goodChoice, goodAt, asGood};
-ghost use Rattle.model.specs.Comparing.{verdict, compared};
+ghost use Rattle.model.specs.Comparing.{verdict};
 ghost use Rattle.order.specs.Order.{inSet};
 ghost use Rattle.calls.specs.Inputs.{withInForce};
 ghost use Rattle.inputs.specs.Inputs.{RoomFor};
@@ -195,29 +195,6 @@ fn verdict_of(first: bool, second: bool) -> usize
     3
 }
 
-// The verdict on two accepted instances.
-fn verdict_on(
-    schema: &[u8],
-    table: &[usize],
-    p: &[u8],
-    index: &[usize],
-    list: &[usize; MOST_POLICIES],
-    rows: usize,
-    s: &[u8],
-    t: &[u8],
-) -> usize
-    requires { ⌜ Accepted (now schema) ⌝ }
-    requires { ⌜ Tabled (now schema) (now table) ⌝ }
-    requires { ⌜ Ranking (now schema) (now p) (now index) (now list) rows ⌝ }
-    requires { ⌜ Readable (schemaOf (now schema)) (now s) ⌝ }
-    requires { ⌜ Readable (schemaOf (now schema)) (now t) ⌝ }
-    ensures { λ r. ⌜ r ≡ compared (schemaOf (now (schema .entry))) (selected (now (schema .entry)) (now (p .entry)) (now (list .entry)) rows) (instanceOf (schemaOf (now (schema .entry))) (now (s .entry))) (instanceOf (schemaOf (now (schema .entry))) (now (t .entry))) ⌝ }
-{
-    let first = as_good(schema, table, p, index, list, rows, s, t);
-    let second = as_good(schema, table, p, index, list, rows, t, s);
-    verdict_of(first, second)
-}
-
 // The instances, files 4 and 5, once schema, policies and pass are accepted: the listed policies are those in force.
 fn in_force(
     schema: &[u8],
@@ -239,7 +216,9 @@ fn in_force(
         Step::Next { at: _ } => match instance_reader::read_instance(schema, table, t) {
             Step::Bad { number, offset } => fields::refusal(number, 5, offset),
             Step::Next { at: _ } => {
-                fields::success(verdict_on(schema, table, p, index, list, rows, s, t))
+                let first = as_good(schema, table, p, index, list, rows, s, t);
+                let second = as_good(schema, table, p, index, list, rows, t, s);
+                fields::success(verdict_of(first, second))
             }
         },
     }

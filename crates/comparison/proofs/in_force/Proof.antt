@@ -1,4 +1,4 @@
--- File 4, then file 5, then the verdict.
+-- File 4, then file 5, then the order each way and the verdict.
 -- Rests on the ruleset instances-read.
 use Rattle.lookup.proofs.Lookup.{readable-by}
 use Rattle.comparison.proofs.Call.{instances-read}
@@ -30,8 +30,14 @@ refusal-requires-2 c κs = search needs
 enum-told-2 : tie.Need-enum-told-2
 enum-told-2 c = search needs
 
-verdict-on-requires : tie.Need-verdict-on-requires
-verdict-on-requires c κs = (search needs, (search needs, (search needs, (readable-by _ _ (c .before .before .before .before .before .read-instance .ensures) (c .before .before .before .enum-told .given .1), readable-by _ _ (c .before .before .read-instance2 .ensures) (c .enum-told2 .given .1)))))
+as-good-requires : tie.Need-as-good-requires
+as-good-requires c κs = (search needs, (search needs, (search needs, (readable-by _ _ (c .before .before .before .before .before .read-instance .ensures) (c .before .before .before .enum-told .given .1), readable-by _ _ (c .before .before .read-instance2 .ensures) (c .enum-told2 .given .1)))))
+
+as-good-requires-2 : tie.Need-as-good-requires-2
+as-good-requires-2 c κs = (search needs, (search needs, (search needs, (readable-by _ _ (c .before .before .before .read-instance2 .ensures) (c .before .enum-told2 .given .1), readable-by _ _ (c .before .before .before .before .before .before .read-instance .ensures) (c .before .before .before .before .enum-told .given .1)))))
+
+verdict-of-requires : tie.Need-verdict-of-requires
+verdict-of-requires c κs = search needs
 
 success-requires : tie.Need-success-requires
 success-requires c κs = search needs
@@ -57,7 +63,9 @@ in-force-spec =
     enum-known-number-2
     refusal-requires-2
     enum-told-2
-    verdict-on-requires
+    as-good-requires
+    as-good-requires-2
+    verdict-of-requires
     success-requires
     returns
     returns-2
