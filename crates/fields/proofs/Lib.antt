@@ -7,3 +7,4 @@ pub mod Signed
 pub mod At
 pub mod Refusals
 pub mod Judged
+pub mod Cut
