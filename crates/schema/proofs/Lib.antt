@@ -6,3 +6,4 @@ pub mod Table
 pub mod Access
 pub mod Fill
 pub mod Refusals
+pub mod Cut
