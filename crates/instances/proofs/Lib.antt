@@ -6,4 +6,5 @@ pub mod Entries
 pub mod Trip
 pub mod RoundTrip
 pub mod Refusals
+pub mod Cut
 pub mod Node
