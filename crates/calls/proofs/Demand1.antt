@@ -1,72 +1,75 @@
--- Demand 1: the first file that is refused, in 01's order, fixes the answer; a refused call leaves the buffer as it was.
--- Rests on the definitions of the calls, and on the laws that no refusal of a file has number 0. That every call ends and
--- answers so is its contract, which has no premise.
-use mathlib.Core.Path.{_≡_, refl, _∙_}
-use mathlib.Core.Bool.{Bool, true, false, cond}
-use mathlib.Core.List.{List, _++_}
+-- Demand 1: the first breach, in 01's order, fixes the answer; a refused call leaves the buffer as it was; a file cut or extended.
+-- Rests on the definitions of the calls, on the laws that no refusal of a file has number 0, and on the readers' laws of cut and extended
+-- files. That every call ends and answers so is its contract, which has no premise.
+use mathlib.Core.Path.{_≡_, refl, sym, ap, _∙_}
+use mathlib.Core.Logic.{_↔_}
+use mathlib.Core.Bool.{true}
+use mathlib.Core.List.{List, _∷_, _++_}
 use mathlib.Core.Option.{Option, none, some}
-use Prim.Native.Nat.{ℕ, _+_, _<_}
-use borrow.Author.Tests.{lt-leb}
-use lib.Dec.{leb}
-use lib.ListN.{length, drop}
+use Prim.Native.Nat.{ℕ, _<_}
+use native.Mathlib.Omega.{arith}
+use lib.ListN.{length, take}
 use Rattle.fields.specs.Reading.{got, bad}
 use Rattle.fields.specs.declared.Answer.{Answer}
-use Rattle.fields.specs.Answers.{judged, success, refusal}
-use Rattle.fields.specs.Outcomes.{Outcome, refused, leaving, placed}
-use Rattle.fields.proofs.Refusals.{ofFile, numbered}
+use Rattle.fields.specs.Answers.{judged, refusal}
+use Rattle.fields.specs.Outcomes.{refused, leaving}
+use Rattle.fields.proofs.Refusals.{ofFile}
 use Rattle.fields.proofs.Judged.{judged-all}
+use Rattle.fields.proofs.Cut.{fieldAt}
 use Rattle.schema.specs.Schema.{Node, schema}
-use Rattle.schema.proofs.Refusals as of-schema
-use Rattle.policies.specs.Policies.{Policy, policies}
-use Rattle.policies.specs.Pass.{pass, forced}
-use Rattle.policies.proofs.Within.{policies-numbered, pass-numbered}
+use Rattle.schema.proofs.Cut.{schemaFields, schema-cut, schema-extended}
+use Rattle.policies.specs.Pass.{forced}
 use Rattle.instances.specs.Instance.{Entry}
 use Rattle.instances.specs.File.{instance, encode}
 use Rattle.instances.proofs.Refusals as of-instance
+use Rattle.instances.proofs.Cut.{instanceFields, instance-cut, instance-extended}
 use Rattle.model.specs.Reconciling.{reconciled}
 use Rattle.model.specs.Comparing.{compared, forbidden}
-use Rattle.calls.specs.Inputs.{withSchema, withPolicies, withPass, withInForce}
+use Rattle.model.proofs.Relations.{ForbiddenField, First}
+use Rattle.model.proofs.Forbidden.{forbidden-first}
+use Rattle.calls.specs.Inputs.{withSchema}
 use Rattle.calls.specs.Calls.{given, reconciling, permitted, checkingInForce, checking, comparingInForce, comparing, copying}
 use Rattle.calls.proofs.Inputs.{schema-all, inputs-all}
-use Rattle.calls.proofs.Accepted.{Accepted, reconciling-is, checking-is}
+use Rattle.calls.proofs.Answers.{Alone, Untouched, refused-untouched, success-alone, refusal-alone, placed-untouched}
+use Rattle.calls.proofs.Accepted.{Accepted, checking-is, comparing-is, Breach, of-schema, reconciling-refused, checking-refused, comparing-refused, breach-number}
 
--- what the three calls that take policies answer
+-- what the calls that take policies answer
 pub record Refused (f p : List ℕ) (a b : ℕ) (s t out : List ℕ) (n file o : ℕ) : Type 0 where
   pub number : n ≡ 0 → ⊥
   pub reconcile : reconciling f p a b out ≡ refused n file o out
   pub check : checking f p a b s ≡ refusal n file o
   pub compare : comparing f p a b s t ≡ refusal n file o
 
--- refused, it answers no more than number, file and offset
-pub record Alone (r : Answer) : Type 0 where
-  pub value : (r .number ≡ 0 → ⊥) → r .value ≡ 0
+-- and the copying call, which takes none
+pub record SchemaRefused (f p : List ℕ) (a b : ℕ) (s t out : List ℕ) (n o : ℕ) : Type 0 where
+  pub with-policies : Refused f p a b s t out n 1 o
+  pub copy : copying f s out ≡ refused n 1 o out
 
-pub record Untouched (out : List ℕ) (o : Outcome) : Type 0 where
-  pub buffer : (o .answer .number ≡ 0 → ⊥) → o .buffer ≡ out
-  pub alone : Alone (o .answer)
+-- what the calls answer that take instance file s, beside t where they take two: 'files 4 and 5'
+pub record InstanceRefused (f p : List ℕ) (a b : ℕ) (A : Accepted f p a b) (s t out : List ℕ) (n o : ℕ) : Type 0 where
+  pub number : n ≡ 0 → ⊥
+  pub check : checking f p a b s ≡ refusal n 4 o
+  pub first : comparing f p a b s t ≡ refusal n 4 o
+  pub second : {i : List Entry} {q : ℕ} → instance (A .g) t ≡ got i q → comparing f p a b t s ≡ refusal n 5 o
+  pub copy : copying f s out ≡ refused n 4 o out
 
 pub record Demand1 (f p : List ℕ) (a b : ℕ) (s t out : List ℕ) : Type 0 where
-  -- schema, policies, pass, instances: 'calls check in that order'
-  pub schema-refused : {n o : ℕ} → schema f ≡ bad n o → Refused f p a b s t out n 1 o
-  pub policies-refused : {g : List Node} {q n o : ℕ} → schema f ≡ got g q → policies g p ≡ bad n o → Refused f p a b s t out n 2 o
-  pub pass-refused : {g : List Node} {ps : List Policy} {q r n o : ℕ} → schema f ≡ got g q → policies g p ≡ got ps r → pass a b ≡ bad n o
-      → Refused f p a b s t out n 3 o
-  pub instance-refused : (A : Accepted f p a b) {n o : ℕ} → instance (A .g) s ≡ bad n o → checking f p a b s ≡ refusal n 4 o
-  pub first-refused : (A : Accepted f p a b) {n o : ℕ} → instance (A .g) s ≡ bad n o → comparing f p a b s t ≡ refusal n 4 o
-  pub second-refused : (A : Accepted f p a b) {i : List Entry} {q n o : ℕ} → instance (A .g) s ≡ got i q → instance (A .g) t ≡ bad n o
-      → comparing f p a b s t ≡ refusal n 5 o
-  -- the copying call takes no policies
-  pub copy-schema-refused : {n o : ℕ} → schema f ≡ bad n o → copying f s out ≡ refused n 1 o out
-  pub copy-instance-refused : {g : List Node} {q n o : ℕ} → schema f ≡ got g q → instance g s ≡ bad n o → copying f s out ≡ refused n 4 o out
-  pub instance-number : (g : List Node) {n o : ℕ} → instance g s ≡ bad n o → n ≡ 0 → ⊥
-  -- 'then the last rows'
-  pub no-instance : (A : Accepted f p a b) → reconciled (A .g) (forced a b (A .ps)) ≡ none → reconciling f p a b out ≡ refused 13 0 0 out
-  pub short-buffer : (A : Accepted f p a b) {i : List Entry} → reconciled (A .g) (forced a b (A .ps)) ≡ some i → length out < length (encode (A .g) i)
-      → reconciling f p a b out ≡ refused 14 0 0 out
-  pub copy-short : {g : List Node} {i : List Entry} {q r : ℕ} → schema f ≡ got g q → instance g s ≡ got i r → length out < length (encode g i)
-      → copying f s out ≡ refused 14 0 0 out
-  pub field-forbidden : (A : Accepted f p a b) {i : List Entry} {q o : ℕ} → instance (A .g) s ≡ got i q → forbidden (A .g) (forced a b (A .ps)) i ≡ some o
-      → checking f p a b s ≡ refusal 18 4 o
+  -- schema, policies, pass, then instances: 'calls check in that order'
+  pub inputs-refused : {n file o : ℕ} → Breach f p a b n file o → Refused f p a b s t out n file o
+  pub schema-refused : {n o : ℕ} → schema f ≡ bad n o → SchemaRefused f p a b s t out n o
+  pub instance-refused : (A : Accepted f p a b) {n o : ℕ} → instance (A .g) s ≡ bad n o → InstanceRefused f p a b A s t out n o
+  -- 'then the last rows': 13 and 14 are in demands 2 and 3;
+  -- '18 first choice or value field that a policy in force forbids; file 4'
+  pub field-forbidden : (A : Accepted f p a b) {i : List Entry} {q : ℕ} → instance (A .g) s ≡ got i q
+      → (o : ℕ) → (checking f p a b s ≡ refusal 18 4 o) ↔ First (ForbiddenField (A .g) (forced a b (A .ps)) i 3) o
+  -- 'if a file is cut': 2 at the field in which the first byte that is missing stands
+  pub schema-cut-off : {g : List Node} {q : ℕ} → schema f ≡ got g q → (k : ℕ) → k < length f → SchemaRefused (take k f) p a b s t out 2 (fieldAt (schemaFields g) 0 k)
+  pub instance-cut-off : (A : Accepted f p a b) {i : List Entry} {q : ℕ} → instance (A .g) s ≡ got i q → (k : ℕ) → k < length s
+      → InstanceRefused f p a b A (take k s) t out 2 (fieldAt (instanceFields (A .g) i) 0 k)
+  -- 'extended': 7 at the first byte that remains
+  pub schema-longer : {g : List Node} {q : ℕ} → schema f ≡ got g q → (x : ℕ) (more : List ℕ) → SchemaRefused (f ++ (x ∷ more)) p a b s t out 7 (length f)
+  pub instance-longer : (A : Accepted f p a b) {i : List Entry} {q : ℕ} → instance (A .g) s ≡ got i q → (x : ℕ) (more : List ℕ)
+      → InstanceRefused f p a b A (s ++ (x ∷ more)) t out 7 (length s)
   -- 'a refused call leaves the output buffer untouched', and 'after a refusal its other parts are 0'
   pub reconcile-untouched : Untouched out (reconciling f p a b out)
   pub copy-untouched : Untouched out (copying f s out)
@@ -75,31 +78,42 @@ pub record Demand1 (f p : List ℕ) (a b : ℕ) (s t out : List ℕ) : Type 0 wh
 
 -- ---- the proof
 
-refused-untouched : (n file o : ℕ) (out : List ℕ) → Untouched out (refused n file o out)
-refused-untouched n file o out = record { buffer = λ h. refl; alone = record { value = λ h. refl } }
+inputs-refused : (f p : List ℕ) (a b : ℕ) (s t out : List ℕ) {n file o : ℕ} → Breach f p a b n file o → Refused f p a b s t out n file o
+inputs-refused f p a b s t out e =
+    record { number = breach-number e; reconcile = reconciling-refused e out; check = checking-refused e s; compare = comparing-refused e s t }
 
-placed-untouched : (file out : List ℕ) → Untouched out (placed file out)
-unfolding placed
-placed-untouched file out = go (leb (length file) (length out))
-  where
-    go : (t : Bool) → Untouched out (cond t (record { answer = success (length file); buffer = file ++ drop (length file) out }) (refused 14 0 0 out))
-    go true = record { buffer = λ h. absurd (h refl); alone = record { value = λ h. absurd (h refl) } }
-    go false = refused-untouched 14 0 0 out
+schema-refused : (f p : List ℕ) (a b : ℕ) (s t out : List ℕ) {n o : ℕ} → schema f ≡ bad n o → SchemaRefused f p a b s t out n o
+unfolding copying withSchema judged
+schema-refused f p a b s t out e = record { with-policies = inputs-refused f p a b s t out (of-schema e); copy = rw e }
 
-placed-short : (file out : List ℕ) → length out < length file → placed file out ≡ refused 14 0 0 out
-unfolding placed
-placed-short file out h = rw (lt-leb (length file) (length out) h)
-
-success-alone : (v : ℕ) → Alone (success v)
-success-alone v = record { value = λ h. absurd (h refl) }
-
-refusal-alone : (n file o : ℕ) → ofFile n ≡ true → Alone (refusal n file o)
-refusal-alone n file o h = record { value = λ h. refl }
+instance-refused : (f p : List ℕ) (a b : ℕ) (A : Accepted f p a b) (s t out : List ℕ) {n o : ℕ} → instance (A .g) s ≡ bad n o → InstanceRefused f p a b A s t out n o
+unfolding copying withSchema judged comparingInForce
+instance-refused f p a b A s t out e =
+    record {
+      number = of-instance.refused (A .g) s e;
+      check = checking-is A s ∙ rw e;
+      first = comparing-is A s t ∙ rw e;
+      second = λ h. comparing-is A t s ∙ rw (h, e);
+      copy = rw (A .schema-read, e);
+    }
 
 permitted-alone : (o : Option ℕ) → Alone (permitted o)
 unfolding permitted
 permitted-alone none = record { value = λ h. refl }
 permitted-alone (some o) = record { value = λ h. refl }
+
+some-of : (x : Option ℕ) (o : ℕ) → permitted x ≡ refusal 18 4 o → x ≡ some o
+unfolding permitted
+some-of none o e = absurd (let z : _≡_ {A = ℕ} 0 18 = ap (λ (r : Answer). r .number) e in omega arith)
+some-of (some x) o e = ap {B = Option ℕ} some (ap (λ (r : Answer). r .offset) e)
+
+field-forbidden : (f p : List ℕ) (a b : ℕ) (s : List ℕ) (A : Accepted f p a b) {i : List Entry} {q : ℕ} → instance (A .g) s ≡ got i q
+    → (o : ℕ) → (checking f p a b s ≡ refusal 18 4 o) ↔ First (ForbiddenField (A .g) (forced a b (A .ps)) i 3) o
+unfolding judged permitted
+field-forbidden f p a b s A {i} e o =
+    let h : checking f p a b s ≡ permitted (forbidden (A .g) (forced a b (A .ps)) i) = checking-is A s ∙ rw e in
+    let w = forbidden-first (A .g) (forced a b (A .ps)) i o in
+    (λ d. w .0 (some-of (forbidden (A .g) (forced a b (A .ps)) i) o (sym h ∙ d)), λ v. h ∙ ap permitted (w .1 v))
 
 given-untouched : (g : List Node) (out : List ℕ) (i : Option (List Entry)) → Untouched out (given g out i)
 unfolding given
@@ -107,44 +121,32 @@ given-untouched g out none = refused-untouched 13 0 0 out
 given-untouched g out (some i) = placed-untouched (encode g i) out
 
 pub demand-1 : (f p : List ℕ) (a b : ℕ) (s t out : List ℕ) → Demand1 f p a b s t out
-unfolding reconciling checking checkingInForce comparing comparingInForce copying withSchema withPolicies withPass withInForce judged given permitted
+unfolding reconciling checking checkingInForce comparing comparingInForce copying
 demand-1 f p a b s t out =
     record {
-      schema-refused = λ {n} {o} e. record { number = of-schema.refused f e; reconcile = rw e; check = rw e; compare = rw e };
-      policies-refused = λ {g} {q} {n} {o} e h. record { number = numbered (policies-numbered g p) h; reconcile = rw (e, h); check = rw (e, h); compare = rw (e, h) };
-      pass-refused = λ {g} {ps} {q} {r} {n} {o} e h x. record { number = numbered (pass-numbered a b) x; reconcile = rw (e, h, x); check = rw (e, h, x); compare = rw (e, h, x) };
-      instance-refused = λ A {n} {o} e. rw (A .schema-read, A .policies-read, A .pass-read, e);
-      first-refused = λ A {n} {o} e. rw (A .schema-read, A .policies-read, A .pass-read, e);
-      second-refused = λ A {i} {q} {n} {o} e h. rw (A .schema-read, A .policies-read, A .pass-read, e, h);
-      copy-schema-refused = λ {n} {o} e. rw e;
-      copy-instance-refused = λ {g} {q} {n} {o} e h. rw (e, h);
-      instance-number = λ g {n} {o} e. of-instance.refused g s e;
-      no-instance = λ A e. reconciling-is A out ∙ none-given (A .g) e;
-      short-buffer = λ A {i} e h. reconciling-is A out ∙ short-given (A .g) i e h;
-      copy-short = λ {g} {i} {q} {r} e h x. rw (e, h) (placed-short (encode g i) out x);
-      field-forbidden = λ A {i} {q} {o} e h. checking-is A s ∙ forbidden-at (A .g) (forced a b (A .ps)) e h;
+      inputs-refused = inputs-refused f p a b s t out;
+      schema-refused = schema-refused f p a b s t out;
+      instance-refused = λ A. instance-refused f p a b A s t out;
+      field-forbidden = field-forbidden f p a b s;
+      schema-cut-off = λ e k l. schema-refused (take k f) p a b s t out (schema-cut f e k l);
+      instance-cut-off = λ A e k l. instance-refused f p a b A (take k s) t out (instance-cut (A .g) s e k l);
+      schema-longer = λ e x more. schema-refused (f ++ (x ∷ more)) p a b s t out (schema-extended f e x more);
+      instance-longer = λ A e x more. instance-refused f p a b A (s ++ (x ∷ more)) t out (instance-extended (A .g) s e x more);
       reconcile-untouched = inputs-all (Untouched out) (leaving out) leaving-untouched f p a b _ λ g q e ps. given-untouched g out (reconciled g ps);
       copy-untouched =
           schema-all (Untouched out) (leaving out) leaving-untouched f _ λ g q e.
           judged-all (Untouched out) (leaving out) 4 (instance g s) _ (of-instance.instance-numbered g s) leaving-untouched λ i r h. placed-untouched (encode g i) out;
       check-alone =
-          inputs-all Alone refusal refusal-alone f p a b _ λ g q e ps.
-          judged-all Alone refusal 4 (instance g s) _ (of-instance.instance-numbered g s) refusal-alone λ i r h. permitted-alone (forbidden g ps i);
+          inputs-all Alone refusal alone f p a b _ λ g q e ps.
+          judged-all Alone refusal 4 (instance g s) _ (of-instance.instance-numbered g s) alone λ i r h. permitted-alone (forbidden g ps i);
       compare-alone =
-          inputs-all Alone refusal refusal-alone f p a b _ λ g q e ps.
-          judged-all Alone refusal 4 (instance g s) _ (of-instance.instance-numbered g s) refusal-alone λ i r h.
-          judged-all Alone refusal 5 (instance g t) _ (of-instance.instance-numbered g t) refusal-alone λ j r h. success-alone (compared g ps i j);
+          inputs-all Alone refusal alone f p a b _ λ g q e ps.
+          judged-all Alone refusal 4 (instance g s) _ (of-instance.instance-numbered g s) alone λ i r h.
+          judged-all Alone refusal 5 (instance g t) _ (of-instance.instance-numbered g t) alone λ j r h. success-alone (compared g ps i j);
     }
   where
     leaving-untouched : (n file o : ℕ) → ofFile n ≡ true → Untouched out (leaving out n file o)
     leaving-untouched n file o h = refused-untouched n file o out
 
-    none-given : (g : List Node) {i : Option (List Entry)} → i ≡ none → given g out i ≡ refused 13 0 0 out
-    none-given g e = rw e
-
-    short-given : (g : List Node) (i : List Entry) {j : Option (List Entry)} → j ≡ some i → length out < length (encode g i) → given g out j ≡ refused 14 0 0 out
-    short-given g i e h = rw e (placed-short (encode g i) out h)
-
-    forbidden-at : (g : List Node) (ps : List Policy) {i : List Entry} {q o : ℕ} → instance g s ≡ got i q → forbidden g ps i ≡ some o
-        → judged refusal 4 (instance g s) (λ i. permitted (forbidden g ps i)) ≡ refusal 18 4 o
-    forbidden-at g ps e h = rw (e, h)
+    alone : (n file o : ℕ) → ofFile n ≡ true → Alone (refusal n file o)
+    alone n file o h = refusal-alone n file o

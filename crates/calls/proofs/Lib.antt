@@ -1,4 +1,5 @@
 pub mod Inputs
+pub mod Answers
 pub mod Accepted
 pub mod Demand1
 pub mod Demand3

@@ -1,5 +1,6 @@
 -- What the reconciler's theorem asks of rules: strict orders of successors, and least values that are least.
--- Rests on the definition of rules; a total order is asked for by 'at least as good' alone.
+-- Rests on the definition of rules. A total order is a premise of its own: `total-best` of Successors alone uses it, for 'at least as
+-- good' and for the law by which an engine picks.
 use Prim.Native.Nat.{ℕ}
 use mathlib.Core.Path.{_≡_}
 use mathlib.Core.Logic.{_⊎_}

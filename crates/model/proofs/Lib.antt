@@ -6,9 +6,9 @@ pub mod Successors
 pub mod Ranks
 pub mod Entries
 pub mod Order
-pub mod Choices
 pub mod Values
 pub mod Reconciler
 pub mod Satisfaction
 pub mod Right
 pub mod Comparing
+pub mod Forbidden

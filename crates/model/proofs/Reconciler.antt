@@ -1,5 +1,5 @@
 -- `reconcile` is right: its answer is planned from the nodes that can be met, and every node that a rival reaches can be.
--- Rests on a sound schema and lawful rules; a total order is asked for by `as-good` alone, through `total-best`.
+-- Rests on a sound schema and lawful rules, and for `as-good` on a total order too, through `total-best`.
 use mathlib.Core.Path.{_≡_, refl, sym, subst, ap, ap₂, _∙_, fun-ext}
 use mathlib.Core.Logic.{_⊎_, inl, inr}
 use mathlib.Core.List.{List, [], _∷_, List·Memᴰ}

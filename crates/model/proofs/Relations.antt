@@ -1,12 +1,12 @@
 -- 01's relations on policies and instances: the demands are stated with them, and the specs' tests agree with them.
 -- Rests on the specs' ranks, conditions and order of successors, and on what an instance is.
-use Prim.Native.Nat.{ℕ, _<_}
+use Prim.Native.Nat.{ℕ, _+_, _≤_, _<_}
 use mathlib.Core.Path.{_≡_}
 use mathlib.Core.Logic.{_↔_}
 use mathlib.Core.List.{List, [], _∷_, List·Memᴰ}
 use mathlib.Core.Bool.{Bool, true, _&&_}
 use mathlib.Core.Option.{Option, none, some}
-use lib.ListN.{getElem?}
+use lib.ListN.{length, getElem?}
 use lib.IntN.{ℤ}
 use lib.Signed.{leZ}
 use Rattle.schema.specs.Schema.{Node, nodeAt}
@@ -14,6 +14,7 @@ use Rattle.schema.specs.declared.Variable.{Variable}
 use Rattle.policies.specs.Policies.{Policy}
 use Rattle.policies.specs.Pass.{inForce}
 use Rattle.instances.specs.Instance.{Entry, elem, chooses, has}
+use Rattle.instances.specs.File.{valueWidth, encodeEntry}
 use Rattle.instances.proofs.IsInstance.{IsInstance}
 use Rattle.model.specs.Satisfaction.{rank, conditionAt, meets}
 use Rattle.model.specs.Order.{better, entryAt, choiceAt}
@@ -111,3 +112,25 @@ pub data Verdict (P Q : Type 0) : ℕ → Type 0 where
   first-better : P → (Q → ⊥) → Verdict P Q 1
   second-better : (P → ⊥) → Q → Verdict P Q 2
   neither : (P → ⊥) → (Q → ⊥) → Verdict P Q 3
+
+-- ---- the checker's last row ('Where a number arises'): '18 first choice or value field that a policy in force forbids'
+
+-- a policy of the list forbids the value that stands at o: of variable k and those after it, the first of which stands at p
+pub data ForbiddenValue (ps : List Policy) (n : ℕ) : ℕ → List Variable → List ℤ → ℕ → ℕ → Type 0 where
+  here : {k : ℕ} {v : Variable} {vs : List Variable} {x : ℤ} {xs : List ℤ} {p : ℕ} (q : Policy) → List·Memᴰ q ps → (meets v (conditionAt q n k) x ≡ true → ⊥)
+      → ForbiddenValue ps n k (v ∷ vs) (x ∷ xs) p p
+  next : {k : ℕ} {v : Variable} {vs : List Variable} {x : ℤ} {xs : List ℤ} {p o : ℕ} → ForbiddenValue ps n (k + 1) vs xs (p + valueWidth v) o
+      → ForbiddenValue ps n k (v ∷ vs) (x ∷ xs) p o
+
+-- a policy of the list forbids the field that stands at o, of entries that stand from p on: mark and node, then 'choice u8, then the
+-- node's values'
+pub data ForbiddenField (g : List Node) (ps : List Policy) : List Entry → ℕ → ℕ → Type 0 where
+  at-choice : {e : Entry} {i : List Entry} {p : ℕ} (q : Policy) → List·Memᴰ q ps → chooses (nodeAt g (e .node)) ≡ true → rank g q (e .node) (e .choice) ≡ 255
+      → ForbiddenField g ps (e ∷ i) p (p + 3)
+  at-value : {e : Entry} {i : List Entry} {p o : ℕ} → ForbiddenValue ps (e .node) 0 (nodeAt g (e .node) .variables) (e .values) (p + 4) o → ForbiddenField g ps (e ∷ i) p o
+  after : {e : Entry} {i : List Entry} {p o : ℕ} → ForbiddenField g ps i (p + length (encodeEntry g e)) o → ForbiddenField g ps (e ∷ i) p o
+
+-- o is the first offset of which P holds
+pub record First (P : ℕ → Type 0) (o : ℕ) : Type 0 where
+  pub has : P o
+  pub least : (q : ℕ) → P q → o ≤ q

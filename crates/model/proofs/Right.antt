@@ -1,4 +1,4 @@
--- Demand 3 on decoded data: what policies get is right, and there is one right answer.
+-- Demand 3 on decoded data: what policies get is right, and there is one best instance.
 -- Rests on a sound schema alone, whatever the policies.
 use mathlib.Core.Path.{_≡_, refl, sym, ap, ap₂, _∙_}
 use mathlib.Core.Logic.{_↔_}
@@ -58,7 +58,7 @@ right g A ps = right-as g (better g ps) (reconcile g (rulesOf g ps)) (rules-iff 
 pub right-in-force : (g : List Node) → Sound g → (ps : List Policy) (a b : ℕ) → Right g (MeetsInForce a b g ps) (better g (forced a b ps)) (reconciled g (forced a b ps))
 right-in-force g A ps a b = right-as g (better g (forced a b ps)) (reconciled g (forced a b ps)) (in-force-iff a b g ps) (right g A (forced a b ps))
 
--- ---- there is one right answer
+-- ---- there is one best instance
 
 no-lower-eq : (vs : List Variable) (xs ys : List ℤ) → inDomains vs xs ≡ true → inDomains vs ys ≡ true → noLower xs ys ≡ true → noLower ys xs ≡ true → xs ≡ ys
 unfolding inDomains noLower
@@ -74,7 +74,7 @@ no-lower-eq (v ∷ vs) (x ∷ xs) (y ∷ ys) d e a b =
     (no-lower-eq vs xs ys (and-true (inDomain v x) (inDomains vs xs) d .1) (and-true (inDomain v y) (inDomains vs ys) e .1) (s .1) (t .1))
 
 module _ (g : List Node) (A : Sound g) (Meets : List Entry → Type 0) (better : ℕ → ℕ → ℕ → Bool) (O : (n : ℕ) → Strict (better n)) where
-  best-unique : (i j : List Entry) → Best g Meets better i → Best g Meets better j → i ≡ j
+  pub best-unique : (i j : List Entry) → Best g Meets better i → Best g Meets better j → i ≡ j
   best-unique i j a b = entries-ext i j (a .is-instance .ascending) (b .is-instance .ascending) (λ n. go n (lookup i (a .is-instance .ascending) n) (lookup j (b .is-instance .ascending) n))
     where
       same : SameChoices i j
@@ -98,12 +98,3 @@ module _ (g : List Node) (A : Sound g) (Meets : List Entry → Type 0) (better :
           let c : d .choice ≡ e .choice = sym (ap choiceOf p) ∙ same .choices n ∙ ap choiceOf q in
           let v : d .values ≡ e .values = sym (ap valuesOf p) ∙ values n d e p q ∙ ap valuesOf q in
           p ∙ ap {B = Option Entry} some (λ t. record { node = u t; choice = c t; values = v t }) ∙ sym q
-
-  pub right-unique : (o q : Option (List Entry)) → Right g Meets better o → Right g Meets better q → o ≡ q
-  right-unique none none w v = refl
-  right-unique none (some j) w v = let b = v .given j refl in absurd (w .refused .0 refl j (b .is-instance) (b .meets))
-  right-unique (some i) none w v = let b = w .given i refl in absurd (v .refused .0 refl i (b .is-instance) (b .meets))
-  right-unique (some i) (some j) w v = ap {B = Option (List Entry)} some (best-unique i j (w .given i refl) (v .given j refl))
-
-pub unique : (g : List Node) → Sound g → (ps : List Policy) (o : Option (List Entry)) → Right g (MeetsAll g ps) (better g ps) o → o ≡ reconciled g ps
-unique g A ps o w = right-unique g A (MeetsAll g ps) (better g ps) (better-strict g ps) o (reconciled g ps) w (right g A ps)
