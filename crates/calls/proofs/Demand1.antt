@@ -16,7 +16,7 @@ use Rattle.fields.specs.Outcomes.{refused, leaving}
 use Rattle.fields.proofs.Refusals.{ofFile}
 use Rattle.fields.proofs.Judged.{judged-all}
 use Rattle.fields.proofs.Cut.{fieldAt}
-use Rattle.schema.specs.Schema.{Node, schema}
+use Rattle.schema.specs.Schema.{Node, schema, nodesIn}
 use Rattle.schema.proofs.Cut.{schemaFields, schema-cut, schema-extended}
 use Rattle.policies.specs.Pass.{forced}
 use Rattle.instances.specs.Instance.{Entry}
@@ -45,31 +45,31 @@ pub record SchemaRefused (f p : List ℕ) (a b : ℕ) (s t out : List ℕ) (n o 
   pub with-policies : Refused f p a b s t out n 1 o
   pub copy : copying f s out ≡ refused n 1 o out
 
--- what the calls answer that take instance file s, beside t where they take two: 'files 4 and 5'
-pub record InstanceRefused (f p : List ℕ) (a b : ℕ) (A : Accepted f p a b) (s t out : List ℕ) (n o : ℕ) : Type 0 where
+-- what the calls answer that take instance file s, under the schema g: 'files 4 and 5' where they take two
+pub record InstanceRefused (f p : List ℕ) (a b : ℕ) (g : List Node) (s t out : List ℕ) (n o : ℕ) : Type 0 where
   pub number : n ≡ 0 → ⊥
-  pub check : checking f p a b s ≡ refusal n 4 o
-  pub first : comparing f p a b s t ≡ refusal n 4 o
-  pub second : {i : List Entry} {q : ℕ} → instance (A .g) t ≡ got i q → comparing f p a b t s ≡ refusal n 5 o
   pub copy : copying f s out ≡ refused n 4 o out
+  pub check : Accepted f p a b → checking f p a b s ≡ refusal n 4 o
+  pub first : Accepted f p a b → comparing f p a b s t ≡ refusal n 4 o
+  pub second : Accepted f p a b → {i : List Entry} {q : ℕ} → instance g t ≡ got i q → comparing f p a b t s ≡ refusal n 5 o
 
 pub record Demand1 (f p : List ℕ) (a b : ℕ) (s t out : List ℕ) : Type 0 where
   -- schema, policies, pass, then instances: 'calls check in that order'
   pub inputs-refused : {n file o : ℕ} → Breach f p a b n file o → Refused f p a b s t out n file o
   pub schema-refused : {n o : ℕ} → schema f ≡ bad n o → SchemaRefused f p a b s t out n o
-  pub instance-refused : (A : Accepted f p a b) {n o : ℕ} → instance (A .g) s ≡ bad n o → InstanceRefused f p a b A s t out n o
+  pub instance-refused : {g : List Node} {q n o : ℕ} → schema f ≡ got g q → instance g s ≡ bad n o → InstanceRefused f p a b g s t out n o
   -- 'then the last rows': 13 and 14 are in demands 2 and 3;
   -- '18 first choice or value field that a policy in force forbids; file 4'
   pub field-forbidden : (A : Accepted f p a b) {i : List Entry} {q : ℕ} → instance (A .g) s ≡ got i q
       → (o : ℕ) → (checking f p a b s ≡ refusal 18 4 o) ↔ First (ForbiddenField (A .g) (forced a b (A .ps)) i 3) o
   -- 'if a file is cut': 2 at the field in which the first byte that is missing stands
   pub schema-cut-off : {g : List Node} {q : ℕ} → schema f ≡ got g q → (k : ℕ) → k < length f → SchemaRefused (take k f) p a b s t out 2 (fieldAt (schemaFields g) 0 k)
-  pub instance-cut-off : (A : Accepted f p a b) {i : List Entry} {q : ℕ} → instance (A .g) s ≡ got i q → (k : ℕ) → k < length s
-      → InstanceRefused f p a b A (take k s) t out 2 (fieldAt (instanceFields (A .g) i) 0 k)
+  pub instance-cut-off : {g : List Node} {i : List Entry} {q r : ℕ} → schema f ≡ got g q → instance g s ≡ got i r → (k : ℕ) → k < length s
+      → InstanceRefused f p a b g (take k s) t out 2 (fieldAt (instanceFields g i) 0 k)
   -- 'extended': 7 at the first byte that remains
   pub schema-longer : {g : List Node} {q : ℕ} → schema f ≡ got g q → (x : ℕ) (more : List ℕ) → SchemaRefused (f ++ (x ∷ more)) p a b s t out 7 (length f)
-  pub instance-longer : (A : Accepted f p a b) {i : List Entry} {q : ℕ} → instance (A .g) s ≡ got i q → (x : ℕ) (more : List ℕ)
-      → InstanceRefused f p a b A (s ++ (x ∷ more)) t out 7 (length s)
+  pub instance-longer : {g : List Node} {i : List Entry} {q r : ℕ} → schema f ≡ got g q → instance g s ≡ got i r → (x : ℕ) (more : List ℕ)
+      → InstanceRefused f p a b g (s ++ (x ∷ more)) t out 7 (length s)
   -- 'a refused call leaves the output buffer untouched', and 'after a refusal its other parts are 0'
   pub reconcile-untouched : Untouched out (reconciling f p a b out)
   pub copy-untouched : Untouched out (copying f s out)
@@ -86,16 +86,20 @@ schema-refused : (f p : List ℕ) (a b : ℕ) (s t out : List ℕ) {n o : ℕ} �
 unfolding copying withSchema judged
 schema-refused f p a b s t out e = record { with-policies = inputs-refused f p a b s t out (of-schema e); copy = rw e }
 
-instance-refused : (f p : List ℕ) (a b : ℕ) (A : Accepted f p a b) (s t out : List ℕ) {n o : ℕ} → instance (A .g) s ≡ bad n o → InstanceRefused f p a b A s t out n o
+instance-refused : (f p : List ℕ) (a b : ℕ) (s t out : List ℕ) {g : List Node} {q n o : ℕ} → schema f ≡ got g q → instance g s ≡ bad n o
+    → InstanceRefused f p a b g s t out n o
 unfolding copying withSchema judged comparingInForce
-instance-refused f p a b A s t out e =
+instance-refused f p a b s t out {g} e h =
     record {
-      number = of-instance.refused (A .g) s e;
-      check = checking-is A s ∙ rw e;
-      first = comparing-is A s t ∙ rw e;
-      second = λ h. comparing-is A t s ∙ rw (h, e);
-      copy = rw (A .schema-read, e);
+      number = of-instance.refused g s h;
+      copy = rw (e, h);
+      check = λ A. checking-is A s ∙ rw (here A s ∙ h);
+      first = λ A. comparing-is A s t ∙ rw (here A s ∙ h);
+      second = λ A k. comparing-is A t s ∙ rw (here A t ∙ k, here A s ∙ h);
     }
+  where
+    here : (A : Accepted f p a b) (u : List ℕ) → instance (A .g) u ≡ instance g u
+    here A u = ap (λ x. instance (nodesIn x) u) (sym (A .schema-read) ∙ e)
 
 permitted-alone : (o : Option ℕ) → Alone (permitted o)
 unfolding permitted
@@ -126,12 +130,12 @@ demand-1 f p a b s t out =
     record {
       inputs-refused = inputs-refused f p a b s t out;
       schema-refused = schema-refused f p a b s t out;
-      instance-refused = λ A. instance-refused f p a b A s t out;
+      instance-refused = instance-refused f p a b s t out;
       field-forbidden = field-forbidden f p a b s;
       schema-cut-off = λ e k l. schema-refused (take k f) p a b s t out (schema-cut f e k l);
-      instance-cut-off = λ A e k l. instance-refused f p a b A (take k s) t out (instance-cut (A .g) s e k l);
+      instance-cut-off = λ {g} e h k l. instance-refused f p a b (take k s) t out e (instance-cut g s h k l);
       schema-longer = λ e x more. schema-refused (f ++ (x ∷ more)) p a b s t out (schema-extended f e x more);
-      instance-longer = λ A e x more. instance-refused f p a b A (s ++ (x ∷ more)) t out (instance-extended (A .g) s e x more);
+      instance-longer = λ {g} e h x more. instance-refused f p a b (s ++ (x ∷ more)) t out e (instance-extended g s h x more);
       reconcile-untouched = inputs-all (Untouched out) (leaving out) leaving-untouched f p a b _ λ g q e ps. given-untouched g out (reconciled g ps);
       copy-untouched =
           schema-all (Untouched out) (leaving out) leaving-untouched f _ λ g q e.

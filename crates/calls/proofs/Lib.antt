@@ -4,4 +4,5 @@ pub mod Accepted
 pub mod Demand1
 pub mod Demand3
 pub mod Demand2
+pub mod ByCall
 pub mod Cases

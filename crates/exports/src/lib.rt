@@ -1,8 +1,10 @@
-// The calls for C and Rust: a slice passes as a pointer and a length.
+// The calls for C and Rust: a slice passes as a pointer and a length. Each contract says what the answer and the buffer are,
+// and then what the demands say of them.
 ghost use mathlib.Core.Path.{_≡_};
 ghost use Rattle.calls.specs.Calls.{reconciling, checking, comparing, copying};
-ghost use Rattle.exports.specs.Call.{Called};
-ghost use Rattle.exports.specs.Exported.{exported};
+ghost use Rattle.calls.proofs.ByCall.{Reconciles, Checks, Compares, Copies};
+ghost use Rattle.exports.specs.Call.{Called, outcomeOf};
+ghost use Rattle.exports.specs.Exported.{exported, answerOf};
 use fields::Answer;
 
 // neulenta_answer of include/neulenta.h.
@@ -28,6 +30,7 @@ fn export(r: Answer) -> Exported
 #[no_mangle]
 pub extern "C" fn neulenta_copy(schema: &[u8], instance: &[u8], out: &mut [u8]) -> Exported
     ensures { λ r. ⌜ Called (copying (now (schema .entry)) (now (instance .entry)) (now (out .entry))) r (now (out .exit)) ⌝ }
+    ensures { λ r. ⌜ Copies (now (schema .entry)) (now (instance .entry)) (now (out .entry)) (outcomeOf r (now (out .exit))) ⌝ }
 {
     export(copying::copy(schema, instance, out))
 }
@@ -41,6 +44,7 @@ pub extern "C" fn neulenta_reconcile(
     out: &mut [u8],
 ) -> Exported
     ensures { λ r. ⌜ Called (reconciling (now (schema .entry)) (now (policies .entry)) a b (now (out .entry))) r (now (out .exit)) ⌝ }
+    ensures { λ r. ⌜ Reconciles (now (schema .entry)) (now (policies .entry)) a b (now (out .entry)) (outcomeOf r (now (out .exit))) ⌝ }
 {
     export(reconciler::reconcile(schema, policies, a, b, out))
 }
@@ -54,6 +58,7 @@ pub extern "C" fn neulenta_check(
     instance: &[u8],
 ) -> Exported
     ensures { λ r. ⌜ r ≡ exported (checking (now (schema .entry)) (now (policies .entry)) a b (now (instance .entry))) ⌝ }
+    ensures { λ r. ⌜ Checks (now (schema .entry)) (now (policies .entry)) a b (now (instance .entry)) (answerOf r) ⌝ }
 {
     export(checker::check(schema, policies, a, b, instance))
 }
@@ -68,6 +73,7 @@ pub extern "C" fn neulenta_compare(
     second: &[u8],
 ) -> Exported
     ensures { λ r. ⌜ r ≡ exported (comparing (now (schema .entry)) (now (policies .entry)) a b (now (first .entry)) (now (second .entry))) ⌝ }
+    ensures { λ r. ⌜ Compares (now (schema .entry)) (now (policies .entry)) a b (now (first .entry)) (now (second .entry)) (answerOf r) ⌝ }
 {
     export(comparison::compare(schema, policies, a, b, first, second))
 }

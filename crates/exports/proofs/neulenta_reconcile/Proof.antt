@@ -1,6 +1,7 @@
 -- The reconciler's call, its answer exported.
--- Rests on called.
+-- Rests on called, and on reconciles-seen for the demands.
 use Rattle.exports.proofs.Called.{called}
+use Rattle.exports.proofs.Demands.{reconciles-seen}
 use borrow.Author.Needs.{needs}
 use Rattle.exports.proofs.neulenta_reconcile.Statement.{statement}
 use Rattle.exports.proofs.neulenta_reconcile.Tie as tie
@@ -15,7 +16,7 @@ same-length : tie.Need-same-length
 same-length c = search needs
 
 returns : tie.Need-returns
-returns c = search called
+returns c = (search called, search reconciles-seen)
 
 pub neulenta-reconcile-spec : {M : Type 1} → statement M
 neulenta-reconcile-spec =
