@@ -22,7 +22,7 @@ use Rattle.schema.specs.declared.Variable.{Variable}
 use Rattle.schema.specs.declared.Variable.the-variants.{Number, Listed}
 use Rattle.policies.specs.Policies.{Condition, range, mask, Rule, Policy, ranks, condition, conditions, ruleOf, conditionsOf, hasRule, ruleFor, rankCount, rankOf, ofRules, policyAt}
 use Rattle.policies.specs.Index.{conditionWidth, placeIn, PolicyIn, policyOf, span, spans, offsetOf}
-use Rattle.policies.proofs.Stands.{ConditionAt, ConditionsAt, none, more, RanksAt, Ruled, rule-of-back}
+use Rattle.policies.proofs.Stands.{ConditionAt, width-span, ConditionsAt, none, more, RanksAt, Ruled, rule-of-back}
 use Rattle.policies.proofs.Places.{Place, absent, present, row, row-none, rest, place-inside}
 use Rattle.model.specs.Satisfaction.{conditionAt}
 use Rattle.model.specs.Reconciling.{both, restrict, restrictAll}
@@ -184,11 +184,6 @@ record Kth (s : List ℕ) (p : ℕ) (v : Variable) (o : Option Condition) : Type
   what : Condition
   is : o ≡ some what
   stands : ConditionAt s p v what
-
-width-span : (s : List ℕ) (p : ℕ) (v : Variable) (c : Condition) → ConditionAt s p v c → conditionWidth c ≡ span v
-unfolding conditionWidth span
-width-span s p (Number lo hi) c r = ap conditionWidth (r .is)
-width-span s p (Listed size) c r = ap conditionWidth (r .is)
 
 kth : {s : List ℕ} {p : ℕ} {vs : List Variable} {cs : List Condition} → ConditionsAt s p vs cs → (k : ℕ) → k < length vs
     → Kth s (p + spans k vs) (getD vs k noVariable) (getElem? cs k)

@@ -16,7 +16,7 @@ use Rattle.schema.specs.Schema.{Node, nodeAt}
 use Rattle.schema.specs.declared.Variable.{Variable}
 use Rattle.schema.specs.declared.Variable.the-variants.{Number, Listed}
 use Rattle.policies.specs.Policies.{Condition, range, mask, Rule, Policy, Head, PH, PN, rankCount, ranks, condition, conditions, ruleOf, rule, rules, head, headWidth, policy, onward, policiesFrom}
-use Rattle.policies.specs.Index.{conditionWidth, conditionsWidth, ruleWidth, rulesWidth, policyWidth}
+use Rattle.policies.specs.Index.{conditionWidth, conditionsWidth, span, ruleWidth, rulesWidth, policyWidth}
 
 -- ---- a condition
 
@@ -34,6 +34,12 @@ pub record MaskAt (s : List ℕ) (p size : ℕ) (c : Condition) : Type 0 where
 abbrev pub ConditionAt : List ℕ → ℕ → Variable → Condition → Type 0
 ConditionAt s p (Number lo hi) c = RangeAt s p c
 ConditionAt s p (Listed size) c = MaskAt s p size c
+
+-- it is as wide as the schema says
+pub width-span : (s : List ℕ) (p : ℕ) (v : Variable) (c : Condition) → ConditionAt s p v c → conditionWidth c ≡ span v
+unfolding conditionWidth span
+width-span s p (Number lo hi) c r = ap conditionWidth (r .is)
+width-span s p (Listed size) c r = ap conditionWidth (r .is)
 
 -- a reading that gave x from p on ended where x does
 pub record Ends (P : Type 0) (q end : ℕ) : Type 0 where

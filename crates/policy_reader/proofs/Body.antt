@@ -1,5 +1,5 @@
--- A PN whose bytes are all there and whose masks fit is read to its end: so one test of the length, and of each mask, will do.
--- Rests on the definitions of the readings, and on schema's Accepted for the number of a node's variables.
+-- A PN is read to its end if, and only if, its bytes are all there and its masks fit: so one test of the length, and of each mask, will do.
+-- Rests on the definitions of the readings, on policies' Stands for the way back, and on schema's Accepted for the number of a node's variables.
 use mathlib.Core.Path.{_≡_, refl, ap, sym, _∙_}
 use mathlib.Core.Bool.{Bool, true, false, cond, _&&_}
 use mathlib.Core.List.{List, [], _∷_}
@@ -7,7 +7,7 @@ use Prim.Native.Nat.{ℕ, zero, suc, _+_, _-_, _*_, _^_, _/_, _%_, _≤_, _<_}
 use native.Mathlib.Omega.{arith}
 use native.Mathlib.Nat.{add-zero}
 use native.Mathlib.Decide.{decLt}
-use borrow.Author.Tests.{leb-true, leb-false, le-leb, lt-leb, lt-ltb}
+use borrow.Author.Tests.{leb-true, leb-false, le-leb, lt-leb, lt-ltb, ltb-true}
 use lib.ListN.{length, getD}
 use lib.Dec.{leb}
 use lib.Pow.{pow-pos, pow-mono}
@@ -17,16 +17,18 @@ use Rattle.fields.specs.Reading.{got, part, be, whole, field, many, signed}
 use Rattle.fields.specs.Answers.{stepOf}
 use Rattle.fields.specs.declared.Step.the-variants.{Next}
 use Rattle.fields.proofs.Reading.{whole-got}
-use Rattle.fields.proofs.Tests.{and-true, and-no, never}
+use Rattle.fields.proofs.Bytes.{Bytes, be-below}
+use Rattle.fields.proofs.Tests.{and-true, and-yes, and-no, never}
 use Rattle.numbers.specs.Bits.{ones}
 use Rattle.schema.specs.Schema.{Node, schemaOf, nodeAt, noVariable, isNumber}
 use Rattle.schema.specs.declared.Variable.{Variable}
 use Rattle.schema.specs.declared.Variable.the-variants.{Number, Listed}
 use Rattle.schema.proofs.Accepted.{file-of, view}
-use Rattle.policies.specs.Policies.{Condition, range, mask, rankCount, ranks, condition, conditions, ruleOf}
-use Rattle.policies.specs.Index.{span, spans, offsetOf}
+use Rattle.policies.specs.Policies.{Condition, range, mask, Rule, rankCount, ranks, condition, conditions, ruleOf}
+use Rattle.policies.specs.Index.{conditionWidth, conditionsWidth, span, spans, offsetOf}
 use Rattle.policy_reader.specs.Body.{mostOf, shapeFrom, shapeOf, Laid, noneOver, Looking}
 use Rattle.policies.proofs.Nodes.{nodes-few}
+use Rattle.policies.proofs.Stands.{ConditionAt, width-span, ConditionsAt, none, more, Ruled}
 
 -- the bytes of a node's ranks and conditions
 unfoldable bodyWidth : Node → ℕ
@@ -82,6 +84,31 @@ body-there s x n p h m =
     next : (k : ℕ) → Fit s (p + (rankCount x + spans k (x .variables))) (getD (x .variables) k noVariable)
         → Fit s (p + rankCount x + spans k (x .variables)) (getD (x .variables) k noVariable)
     next k f = let e : p + rankCount x + spans k (x .variables) ≡ p + (rankCount x + spans k (x .variables)) = omega arith in rw e f
+
+-- ---- back: of a PN that was read, the width follows from the schema, and no mask is over
+
+conditions-span : {s : List ℕ} {p : ℕ} {vs : List Variable} {cs : List Condition} → ConditionsAt s p vs cs → conditionsWidth cs ≡ spans (length vs) vs
+unfolding conditionsWidth spans
+conditions-span none = refl
+conditions-span {s} {p} (more {v = v} {vs} {c} {cs} a r) = omega (arith, width-span s p v c a, conditions-span r)
+
+condition-most : (s : List ℕ) (p : ℕ) (v : Variable) (c : Condition) → Bytes s → ConditionAt s p v c → be 4 s p ≤ mostOf v
+unfolding mostOf ones
+condition-most s p (Number lo hi) c f r = omega (arith, be-below 4 s p f)
+condition-most s p (Listed size) c f r = go (leb size 32)
+  where
+    go : (b : Bool) → be 4 s p ≤ cond b (2 ^ size - 1) 4294967295
+    go true = omega (arith, ltb-true (be 4 s p) (2 ^ size) (r .within))
+    go false = omega (arith, be-below 4 s p f)
+
+conditions-most : {s : List ℕ} {p : ℕ} {vs : List Variable} {cs : List Condition} → Bytes s → ConditionsAt s p vs cs → (k : ℕ) → k < length vs
+    → be 4 s (p + spans k vs) ≤ mostOf (getD vs k noVariable)
+unfolding spans
+conditions-most f none k h = absurd (omega arith)
+conditions-most {s} {p} f (more {v = v} {vs} {c} {cs} a r) zero h = rw (add-zero p) (condition-most s p v c f a)
+conditions-most {s} {p} f (more {v = v} {vs} {c} {cs} a r) (suc k) h =
+    let e : p + (span v + spans k vs) ≡ p + conditionWidth c + spans k vs = omega (arith, width-span s p v c a) in
+    rw e (conditions-most f r k (omega arith))
 
 -- ---- a node's shape tells the width, and up to where there are masks
 
@@ -214,6 +241,28 @@ module _ (schema : List ℕ) (t : List ℕ) (n : ℕ) (w : Laid (schemaOf schema
             fit-number s (p + offsetOf node k) (getD (node .variables) k noVariable)
             (shape-numbers (node .variables) (rankCount node) 0 0 (omega arith) few k m
             (let d = ap (λ (i : ℕ). i % 8) (q ∙ w .each n b .shape) in omega arith))
+
+  -- back
+  module _ (s : List ℕ) (p : ℕ) {shape : ℕ} (q : shape ≡ getD t (16 * n) 0) {x : Rule} {e : ℕ} (r : Ruled s node n p x e) where
+    pub body-end : e ≡ p + shape / 8
+    unfolding bodyWidth offsetOf
+    body-end = omega (arith, r .next, r .count, conditions-span (r .conditions), ap (λ (i : ℕ). i / 8) q, half-is)
+
+    below-most : Bytes s → (k : ℕ) → k < length (node .variables) → be 4 s (p + getD t (2 + 16 * n + 2 * k) 0) ≤ getD t (2 + 16 * n + 2 * k + 1) 0
+    unfolding offsetOf
+    below-most f k m =
+        let d = w .each n b in
+        let z : p + (rankCount node + spans k (node .variables)) ≡ p + length (x .ranks) + spans k (node .variables) = omega (arith, r .count) in
+        rw (d .at k m, d .most k m, z) (conditions-most f (r .conditions) k m)
+
+    pub body-over : Bytes s → (k : ℕ) → k ≤ shape % 8 → noneOver t s n p k ≡ true
+    unfolding noneOver
+    body-over f zero h = refl
+    body-over f (suc k) h =
+        and-yes
+        (le-leb (be 4 s (p + getD t (2 + 16 * n + 2 * k) 0)) (getD t (2 + 16 * n + 2 * k + 1) 0)
+        (below-most f k (omega (arith, ap (λ (i : ℕ). i % 8) q, looks-few))))
+        (body-over f k (omega arith))
 
 -- ---- the loop over the conditions looked at, from the last: what is left equals the whole
 

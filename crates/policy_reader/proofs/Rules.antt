@@ -1,9 +1,9 @@
 -- A PN as the code reads it, and the loop over those of a policy: what is left to read and to fill from here equals the whole.
 -- Rests on the definitions of `rule`, `rules` and `fillRules`, on Body, and on Stands and Within: a PN ends where its width says, inside.
-use mathlib.Core.Path.{_≡_, refl, ap, sym, _∙_}
+use mathlib.Core.Path.{_≡_, refl, ap, sym, subst, _∙_}
 use mathlib.Core.Bool.{Bool, true, false, _&&_}
 use mathlib.Core.List.{List, _∷_}
-use Prim.Native.Nat.{ℕ, suc, _+_, _-_, _*_, _/_, _%_, _≤_, _<_}
+use Prim.Native.Nat.{ℕ, suc, _+_, _-_, _*_, _^_, _/_, _%_, _≤_, _<_, min}
 use native.Mathlib.Omega.{arith}
 use native.Mathlib.Decide.{ℕ-discrete}
 use borrow.Author.Tests.{le-leb, lt-leb, lt-ltb, le-ltb, eq-eqb, ne-eqb, eqb-true}
@@ -18,21 +18,21 @@ use Rattle.fields.specs.declared.Field.the-variants.{Value, Cut}
 use Rattle.fields.specs.declared.Step.{Step}
 use Rattle.fields.specs.declared.Step.the-variants.{Next, Bad}
 use Rattle.fields.proofs.Reading.{took, stepped, stopped, value-of, mark-yes, field-cut, field-bad, field-ok}
-use Rattle.fields.proofs.Back.{whole-back, be1}
-use Rattle.fields.proofs.Bytes.{be2}
-use Rattle.fields.proofs.Tests.{and-yes, and-no, and-no-2, never}
+use Rattle.fields.proofs.Back.{whole-back, field-back, after-mark, be1}
+use Rattle.fields.proofs.Bytes.{be2, Bytes}
+use Rattle.fields.proofs.Tests.{and-yes, and-no, and-no-2, never, is-not, alike}
 use Rattle.schema.specs.Schema.{Node, nodeAt, schemaOf}
 use Rattle.schema.specs.Table.{NodeIn}
 use Rattle.policies.specs.Policies.{Rule, PN, ruleOf, rule, rules}
 use Rattle.policies.specs.Index.{ruleWidth, fillRules, SchemaIn}
 use Rattle.policy_reader.specs.Body.{Laid, Looking, noneOver}
-use Rattle.policy_reader.specs.Runs.{ruleRead, Expected, End, InRow, leftOf, Run, did, refused, runOf, Long}
+use Rattle.policy_reader.specs.Runs.{ruleRead, names, InRow, leftOf, Run, did, refused, runOf, Long}
 use Rattle.policy_reader.specs.declared.RuleRead.{RuleRead}
 use Rattle.policy_reader.specs.declared.RuleRead.the-variants.{Named, NoRule}
 use Rattle.policies.proofs.Nodes.{nodes-few}
-use Rattle.policies.proofs.Stands.{rule-of-back, rule-back}
+use Rattle.policies.proofs.Stands.{Ruled, rule-of-back, rule-back}
 use Rattle.policies.proofs.Within.{pn-within}
-use Rattle.policy_reader.proofs.Body.{body-looking, body-read}
+use Rattle.policy_reader.proofs.Body.{body-looking, body-read, body-end, body-over}
 
 -- ---- one PN
 
@@ -106,6 +106,22 @@ module _ (schema s : List ℕ) (low p : ℕ) {f : Step} where
 
 pub ruleset of-rule = (rule-unmarked, rule-cut, rule-low, rule-high, rule-bad, rule-named)
 
+-- ---- a PN that was read
+
+-- an answer, back to what was read
+record Answered (r : Got Rule) (n q : ℕ) : Type 0 where
+  pub what : Rule
+  pub read : r ≡ got what q
+  pub node : what .node ≡ n
+
+rule-took : (r : Got Rule) {f : RuleRead} {n q : ℕ} → f ≡ ruleRead r → f ≡ Named n q → Answered r n q
+rule-took (got x u) e h = record { what = x; read = cc; node = cc }
+rule-took (bad m o) e h = absurd (let z : _≡_ {A = ℕ} 0 1 = cc in omega arith)
+
+rule-none : (r : Got Rule) {f : RuleRead} {m o : ℕ} → f ≡ ruleRead r → f ≡ NoRule m o → r ≡ bad m o
+rule-none (got x u) e h = absurd (let z : _≡_ {A = ℕ} 0 1 = cc in omega arith)
+rule-none (bad m o) e h = cc
+
 -- ---- the PN that is expected
 
 -- two letters compared as numbers, the first one low
@@ -127,18 +143,84 @@ pair-same s m p {x} {y} a b = go (ℕ-discrete x y)
 pub few-fits : (schema : List ℕ) (n : ℕ) → n < length (schemaOf schema) → Fits w8 n
 few-fits schema n h = record { fits = omega (arith, nodes-few schema) }
 
-pub expected-not : (g : List Node) (s : List ℕ) (n p q : ℕ) → Expected g s n p q false
-expected-not g s n p q = record { inside = λ e. never e; read = λ e. never e }
+-- what was read, back from whether it is a PN of node n
+names-back : (n : ℕ) (r : Got Rule) → names n r ≡ true → (q : ℕ) × Answered r n q
+unfolding names
+names-back n (got x q) e = (q, record { what = x; read = refl; node = eqb-true (x .node) n e })
+names-back n (bad m o) e = never e
+
+named-names : (n q : ℕ) (r : Got Rule) → Named n q ≡ ruleRead r → names n r ≡ true
+unfolding names
+named-names n q (got x u) e = eq-eqb (x .node) n (cc)
+named-names n q (bad m o) e = absurd (let z : _≡_ {A = ℕ} 0 1 = cc in omega arith)
+
+-- the letters, the node and what follows it, of a PN of node n that was read
+record Parts (g : List Node) (s : List ℕ) (n p : ℕ) (x : Rule) (q : ℕ) : Type 0 where
+  pub letters : eqb (be 2 s p) (be 2 PN 0) ≡ true
+  pub node : getD s (p + 2) 0 ≡ n
+  pub body : Ruled s (nodeAt g n) n (p + 3) x q
+
+parts : (g : List Node) (s : List ℕ) (n p : ℕ) {x : Rule} {q : ℕ} → rule g s n p ≡ got x q → x .node ≡ n → Parts g s n p x q
+unfolding rule
+parts g s n p {x} {q} e i =
+    let m = after-mark PN s p _ e in
+    let f = field-back 1 10 (λ v. leb n v && ltb v (length g)) s (p + 2) _ (m .then) in
+    let v = be 1 s (p + 2) in
+    let r = rule-of-back s (nodeAt g v) v (p + 2 + 1) (f .then) in
+    let a : p + 2 + 1 ≡ p + 3 = omega arith in
+    let z : v ≡ n = sym (r .node) ∙ i in
+    record {
+      letters = m .letters;
+      node = sym (be1 s (p + 2)) ∙ z;
+      body = subst (λ (j : ℕ). Ruled s (nodeAt g n) n j x q) a (subst (λ (j : ℕ). Ruled s (nodeAt g j) j (p + 2 + 1) x q) z r);
+    }
+
+-- a PN of node n stands at p, and ends at q
+pub record Expected (g : List Node) (s : List ℕ) (n p q : ℕ) : Type 0 where
+  pub inside : q ≤ length s
+  pub read : Named n q ≡ ruleRead (rule g s n p)
 
 module _ (schema t s : List ℕ) (n p : ℕ) {shape : ℕ} (w : Laid (schemaOf schema) (length (schemaOf schema)) t) (b : n < length (schemaOf schema))
-    (q : shape ≡ getD t (16 * n) 0) (l : p + (3 + shape / 8) ≤ length s) where
-  pub expected-looking : Looking t s n (shape % 8) (p + 3)
-  expected-looking = body-looking schema t n w b s (p + 3) q (omega arith) (omega arith)
+    (q : shape ≡ getD t (16 * n) 0) where
+  abbrev read : Got Rule
+  read = rule (schemaOf schema) s n p
 
-  pub expected-is : {m v : Bool} → m ≡ eqb (be 2 s p) (be 2 PN 0) → m ≡ true → getD s (p + 2) 0 ≡ n → v ≡ noneOver t s n (p + 3) (shape % 8)
-      → Expected (schemaOf schema) s n p (p + (3 + shape / 8)) v
-  expected-is {m} {v} e h i o = record { inside = λ z. omega arith; read = λ z. read z }
-    where
+  -- the node's shape tells where it ends
+  expected-end : {e : ℕ} → Answered read n e → e ≡ p + (3 + shape / 8)
+  expected-end {e} h =
+      let z = body-end schema t n w b s (p + 3) q (parts (schemaOf schema) s n p (h .read) (h .node) .body) in
+      omega arith
+
+  expected-stands : {v : Bool} → p ≤ length s → v ≡ names n read → v ≡ true → Expected (schemaOf schema) s n p (p + (3 + shape / 8))
+  expected-stands l e z =
+      let h = names-back n read (sym e ∙ z) in
+      let i = expected-end (h .1) in
+      record {
+        inside = omega (arith, rw (h .1 .read) at (pn-within s (schemaOf schema) n p l .end));
+        read = rw (h .1 .read, h .1 .node) (ap (Named n) (sym i));
+      }
+
+  -- where one of the tests fails none was read
+  module _ (f : (e : ℕ) → Answered read n e → ⊥) where
+    none-read : false ≡ names n read
+    none-read = sym (is-not (names n read) (λ h. let z = names-back n read h in f (z .0) (z .1)))
+
+  pub expected-short : p ≤ length s → length s < p + (3 + shape / 8) → false ≡ names n read
+  expected-short l h =
+      none-read (λ e a. let i = expected-end a in let z = rw (a .read) at (pn-within s (schemaOf schema) n p l .end) in omega arith)
+
+  pub expected-unmarked : {m : Bool} → m ≡ eqb (be 2 s p) (be 2 PN 0) → m ≡ false → false ≡ names n read
+  expected-unmarked e h = none-read (λ u a. never (sym h ∙ e ∙ parts (schemaOf schema) s n p (a .read) (a .node) .letters))
+
+  pub expected-other : (getD s (p + 2) 0 ≡ n → ⊥) → false ≡ names n read
+  expected-other h = none-read (λ e a. h (parts (schemaOf schema) s n p (a .read) (a .node) .node))
+
+  module _ (l : p + (3 + shape / 8) ≤ length s) where
+    pub expected-looking : Looking t s n (shape % 8) (p + 3)
+    expected-looking = body-looking schema t n w b s (p + 3) q (omega arith) (omega arith)
+
+    -- where all of them pass one was read
+    module _ {m v : Bool} (e : m ≡ eqb (be 2 s p) (be 2 PN 0)) (h : m ≡ true) (i : getD s (p + 2) 0 ≡ n) (o : v ≡ noneOver t s n (p + 3) (shape % 8)) where
       marked : Next (p + 2) ≡ stepOf (mark PN s p)
       marked = mark-yes PN s p (value-of 2 s p (be 2 s p) (omega arith) refl) refl refl (eqb-true (be 2 s p) (be 2 PN 0) (sym e ∙ h))
 
@@ -151,24 +233,16 @@ module _ (schema t s : List ℕ) (n p : ℕ) {shape : ℕ} (w : Laid (schemaOf s
           let c : p + (3 + shape / 8) ≡ p + 3 + shape / 8 = omega arith in
           rw (a, c) (body-read schema t n w b s (p + 3) q (omega arith) (omega arith) o z)
 
-      read : v ≡ true → Named n (p + (3 + shape / 8)) ≡ ruleRead (rule (schemaOf schema) s n p)
-      read z = named-then schema s n p marked refl named refl (omega arith) b (body z) refl
+      one-read : v ≡ true → names n read ≡ true
+      one-read z = named-names n (p + (3 + shape / 8)) read (named-then schema s n p marked refl named refl (omega arith) b (body z) refl)
 
--- ---- a PN that was read
+      pub expected-is : Bytes s → v ≡ names n read
+      expected-is f = alike v (names n read) one-read (λ z. o ∙ fits (names-back n read z))
+        where
+          fits : (u : ℕ) × Answered read n u → noneOver t s n (p + 3) (shape % 8) ≡ true
+          fits a = body-over schema t n w b s (p + 3) q (parts (schemaOf schema) s n p (a .1 .read) (a .1 .node) .body) f (shape % 8) (omega arith)
 
--- an answer, back to what was read
-record Answered (r : Got Rule) (n q : ℕ) : Type 0 where
-  pub what : Rule
-  pub read : r ≡ got what q
-  pub node : what .node ≡ n
-
-rule-took : (r : Got Rule) {f : RuleRead} {n q : ℕ} → f ≡ ruleRead r → f ≡ Named n q → Answered r n q
-rule-took (got x u) e h = record { what = x; read = cc; node = cc }
-rule-took (bad m o) e h = absurd (let z : _≡_ {A = ℕ} 0 1 = cc in omega arith)
-
-rule-none : (r : Got Rule) {f : RuleRead} {m o : ℕ} → f ≡ ruleRead r → f ≡ NoRule m o → r ≡ bad m o
-rule-none (got x u) e h = absurd (let z : _≡_ {A = ℕ} 0 1 = cc in omega arith)
-rule-none (bad m o) e h = cc
+-- ---- the index, after a PN that was read
 
 fill-first : (j p : ℕ) (r : Got (List Rule)) (x : Rule) (t : List ℕ)
     → runOf (fillRules j p) (part r (λ xs q. got (x ∷ xs) q)) t ≡ runOf (fillRules j (p + ruleWidth x)) r (set t (16 + 16 * x .node + j) (p + 3))
@@ -211,19 +285,37 @@ module _ (g : List Node) (s : List ℕ) (j low p : ℕ) (t : List ℕ) (end : �
         left = λ k. ap (λ (i : ℕ). leftOf g s j i low p t) (let z : k ≡ low - low + k = omega arith in z);
       }
 
-  pub row-more : (n q : ℕ) (u : List ℕ) {r : ℕ} {v : Bool} → InRow g s j low p t end n q u → n < end → Expected g s n q r v → v ≡ true
+  pub row-more : (n q : ℕ) (u : List ℕ) {r : ℕ} → InRow g s j low p t end n q u → n < end → Expected g s n q r
       → InRow g s j low p t end (n + 1) r (set u (16 + 16 * n + j) (q + 3))
-  row-more n q u {r} i a e z =
+  row-more n q u {r} i a e =
       record {
         least = omega (arith, i .least);
         most = omega arith;
-        inside = e .inside z;
+        inside = e .inside;
         same = length-set u (16 + 16 * n + j) (q + 3) ∙ i .same;
         left = λ k.
-            left-next g s n q (e .read z) refl j k u
+            left-next g s n q (e .read) refl j k u
             ∙ i .left (suc k)
             ∙ ap (λ (m : ℕ). leftOf g s j m low p t) (let z : n - low + suc k ≡ n + 1 - low + k = omega (arith, i .least) in z);
       }
+
+-- the PN that was expected, of a node of the row
+module _ (schema t s : List ℕ) (n p end : ℕ) {shape : ℕ} {v : Bool} (w : Laid (schemaOf schema) (length (schemaOf schema)) t) (h : n < end) (k : end ≤ length (schemaOf schema))
+    (q : shape ≡ getD t (16 * n) 0) (l : p ≤ length s) (e : v ≡ names n (rule (schemaOf schema) s n p)) (z : v ≡ true) where
+  pub row-stands : Expected (schemaOf schema) s n p (p + (3 + shape / 8))
+  row-stands = expected-stands schema t s n p w (omega arith) q l e z
+
+  module _ (m : length s < 2 ^ 64) where
+    pub row-width-fits : Fits w64 (shape / 8)
+    row-width-fits = record { fits = omega (arith, row-stands .inside) }
+
+    pub row-whole-fits : Fits w64 (3 + shape / 8)
+    row-whole-fits = record { fits = omega (arith, row-stands .inside) }
+
+    pub row-end-fits : Fits w64 (p + (3 + shape / 8))
+    row-end-fits = record { fits = omega (arith, row-stands .inside) }
+
+pub ruleset of-row = (row-width-fits, row-whole-fits, row-end-fits)
 
 -- ---- all of them
 
@@ -248,14 +340,14 @@ module _ (schema s : List ℕ) (j : ℕ) (t₀ : List ℕ) (X : Run) (k low p : 
   pub row-long : Long schema t
   row-long = record { long = i .room }
 
-pub row-end : (schema table : List ℕ) (count low k e : ℕ) → SchemaIn schema table count → End count low k e → e ≤ length (schemaOf schema)
-row-end schema table count low k e c d = omega (arith, c .counted, d .most)
+pub row-end : (schema table : List ℕ) (count low k e : ℕ) → SchemaIn schema table count → e ≡ min count (low + k) → e ≤ length (schemaOf schema)
+row-end schema table count low k e c d = omega (arith, c .counted)
 
-pub row-few : (g : List Node) (s : List ℕ) (j low p : ℕ) (t : List ℕ) (e n q : ℕ) (u : List ℕ) {count k : ℕ} → End count low k e → InRow g s j low p t e n q u → n - low ≤ k
-row-few g s j low p t e n q u d r = omega (arith, d .few, r .most)
+pub row-few : (g : List Node) (s : List ℕ) (j low p : ℕ) (t : List ℕ) (e n q : ℕ) (u : List ℕ) (count k : ℕ) → e ≡ min count (low + k) → InRow g s j low p t e n q u → n - low ≤ k
+row-few g s j low p t e n q u count k d r = omega (arith, r .most)
 
 module _ (schema s : List ℕ) (j : ℕ) (t₀ : List ℕ) {X : Run} (k low p : ℕ) (t : List ℕ) {count e n q : ℕ} {u : List ℕ} {table : List ℕ}
-    (i : Filling (schemaOf schema) s j t₀ X k low p t) (c : SchemaIn schema table count) (d : End count low k e) (r : InRow (schemaOf schema) s j low p t e n q u) where
+    (i : Filling (schemaOf schema) s j t₀ X k low p t) (c : SchemaIn schema table count) (d : e ≡ min count (low + k)) (r : InRow (schemaOf schema) s j low p t e n q u) where
   abbrev g : List Node
   g = schemaOf schema
 
@@ -265,11 +357,11 @@ module _ (schema s : List ℕ) (j : ℕ) (t₀ : List ℕ) {X : Run} (k low p : 
       record {
         left =
             r .left (k - (n - low))
-            ∙ ap (λ (m : ℕ). leftOf g s j m low p t) (let z : n - low + (k - (n - low)) ≡ k = omega (arith, d .few, r .most) in z)
+            ∙ ap (λ (m : ℕ). leftOf g s j m low p t) (let z : n - low + (k - (n - low)) ≡ k = omega (arith, r .most) in z)
             ∙ i .left;
         same = r .same ∙ i .same;
         room = omega (arith, i .room, r .same);
-        below = omega (arith, r .most, d .most, c .counted);
+        below = omega (arith, r .most, c .counted);
         inside = r .inside;
         few = i .few;
       }

@@ -2,14 +2,15 @@
 -- For the contracts of functions that no other crate calls.
 use Prim.Native.Nat.{ℕ, _+_, _-_, _≤_}
 use mathlib.Core.Path.{_≡_}
-use mathlib.Core.Bool.{Bool, true}
+use mathlib.Core.Bool.{Bool, false}
 use mathlib.Core.List.{List}
 use lib.ListN.{length}
+use lib.Dec.{eqb}
 use Rattle.fields.specs.Reading.{Got, got, bad}
 use Rattle.fields.specs.declared.Step.{Step}
 use Rattle.fields.specs.declared.Step.the-variants.{Next, Bad}
 use Rattle.schema.specs.Schema.{Node, schemaOf}
-use Rattle.policies.specs.Policies.{Rule, Policy, Head, rule, rules}
+use Rattle.policies.specs.Policies.{Rule, Policy, Head, rules}
 use Rattle.policies.specs.Index.{indexSlots, fillRules, fillPolicies}
 use Rattle.policy_reader.specs.declared.HeadRead.{HeadRead}
 use Rattle.policy_reader.specs.declared.HeadRead.the-variants.{Found, NoHead}
@@ -32,16 +33,10 @@ abbrev pub ruleRead : Got Rule → RuleRead
 ruleRead (got x q) = Named (x .node) q
 ruleRead (bad n o) = NoRule n o
 
--- r is true only where a PN of node n stands at p and ends at q
-pub record Expected (g : List Node) (s : List ℕ) (n p q : ℕ) (r : Bool) : Type 0 where
-  pub inside : r ≡ true → q ≤ length s
-  pub read : r ≡ true → Named n q ≡ ruleRead (rule g s n p)
-
--- PN in a row, from node low on and below e, are k at most, of nodes below count
-pub record End (count low k e : ℕ) : Type 0 where
-  pub least : low ≤ e
-  pub most : e ≤ count
-  pub few : e ≤ low + k
+-- whether what was read is a PN of node n
+unfoldable pub names : ℕ → Got Rule → Bool
+names n (got x q) = eqb (x .node) n
+names n (bad m o) = false
 
 -- what a call that fills the index did: a number and the index, or a refusal, whatever the index then holds
 pub data Run : Type 0 where

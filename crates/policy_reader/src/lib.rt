@@ -1,6 +1,6 @@
 // The reader of policies files.
 ghost use mathlib.Core.Path.{_≡_};
-ghost use Prim.Native.Nat.{_+_, _*_, _/_, _<_, _≤_};
+ghost use Prim.Native.Nat.{_+_, _*_, _<_, _≤_, min};
 ghost use lib.ListN.{length, getD, set, drop, replicate};
 ghost use lib.Dec.{eqb};
 ghost use Rattle.fields.specs.Reading.{be};
@@ -10,7 +10,7 @@ ghost use Rattle.schema.specs.Table.{NodeIn};
 ghost use Rattle.policies.specs.Policies.{ruleOf, rule, head, policy, mostPolicies, policies};
 ghost use Rattle.policies.specs.Index.{fillPolicy, SchemaIn, IndexRoom};
 ghost use Rattle.policy_reader.specs.Body.{mostOf, layoutSlot, Laid, Looking, noneOver};
-ghost use Rattle.policy_reader.specs.Runs.{headIn, ruleRead, Expected, InRow, End, leftOf, outcome, runOf, fileOutcome, fileRun, Long};
+ghost use Rattle.policy_reader.specs.Runs.{headIn, ruleRead, names, InRow, leftOf, outcome, runOf, fileOutcome, fileRun, Long};
 ghost use Rattle.policy_reader.specs.Answers.{Told};
 use fields::Field;
 use fields::Step;
@@ -236,14 +236,14 @@ fn is_marked(b: &[u8], at: usize, m: &[u8; 2]) -> bool
     pair(b[at], b[at + 1]) == pair(m[0], m[1])
 }
 
-// Whether a PN of node n, whose shape is given, stands at a position, whole and with no mask over. The schema is for the
-// contract alone.
+// Whether a PN of node n, whose shape is given, stands at a position: by one test of the length, then of the mark, the node
+// and the masks. The schema is for the contract alone.
 fn is_expected(schema: &[u8], layout: &[u32], n: usize, shape: u32, b: &[u8], at: usize) -> bool
     requires { ⌜ Laid (schemaOf (now schema)) (length (schemaOf (now schema))) (now layout) ⌝ }
     requires { ⌜ n < length (schemaOf (now schema)) ⌝ }
     requires { ⌜ shape ≡ getD (now layout) (layoutSlot n) 0 ⌝ }
     requires { ⌜ at ≤ length (now b) ⌝ }
-    ensures { λ r. ⌜ Expected (schemaOf (now (schema .entry))) (now (b .entry)) n at (at + (3 + shape / 8)) r ⌝ }
+    ensures { λ r. ⌜ r ≡ names n (rule (schemaOf (now (schema .entry))) (now (b .entry)) n at) ⌝ }
 {
     if at + (3 + (shape / 8) as usize) <= b.len() {
         if is_marked(b, at, b"PN") {
@@ -359,7 +359,7 @@ fn read_rule(
 // The node below which PN in a row stay, where left of them follow from node low on.
 fn end_of(count: usize, low: usize, left: usize) -> usize
     requires { ⌜ low ≤ count ⌝ }
-    ensures { λ r. ⌜ End count low left r ⌝ }
+    ensures { λ r. ⌜ r ≡ min count (low + left) ⌝ }
 {
     if left < count - low {
         return low + left;

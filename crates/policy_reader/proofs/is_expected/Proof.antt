@@ -1,6 +1,6 @@
--- Where each test passes the PN is read to its end; elsewhere nothing is claimed.
+-- Where each test passes a PN of the node is read to its end; where one fails none is.
 -- Rests on the laws of the PN that is expected.
-use Rattle.policy_reader.proofs.Rules.{few-fits, expected-looking, expected-is, expected-not}
+use Rattle.policy_reader.proofs.Rules.{few-fits, expected-looking, expected-is, expected-short, expected-unmarked, expected-other}
 use borrow.Author.Needs.{needs}
 use Rattle.policy_reader.proofs.is_expected.Statement.{statement}
 use Rattle.policy_reader.proofs.is_expected.Tie as tie
@@ -39,13 +39,13 @@ returns : tie.Need-returns
 returns c = search expected-is
 
 returns-2 : tie.Need-returns-2
-returns-2 c = search expected-not
+returns-2 c = search expected-other
 
 returns-3 : tie.Need-returns-3
-returns-3 c = search expected-not
+returns-3 c = search expected-unmarked
 
 returns-4 : tie.Need-returns-4
-returns-4 c = search expected-not
+returns-4 c = search expected-short
 
 pub is-expected-spec : {M : Type 1} → statement M
 is-expected-spec =

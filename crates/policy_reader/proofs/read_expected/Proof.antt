@@ -6,7 +6,7 @@ use Prim.Native.Nat.{_-_}
 use native.Mathlib.Omega.{arith}
 use Rattle.schema.specs.Schema.{schemaOf}
 use Rattle.policy_reader.specs.Runs.{InRow}
-use Rattle.policy_reader.proofs.Rules.{row-start, row-more}
+use Rattle.policy_reader.proofs.Rules.{row-start, row-more, row-stands, of-row}
 use Rattle.policy_reader.proofs.read_expected.Statement.{statement}
 use Rattle.policy_reader.proofs.read_expected.Tie as tie
 
@@ -54,13 +54,13 @@ slice-write-index : tie.Need-slice-write-index Inv-loop μ-loop
 slice-write-index c = search needs
 
 cast-at : tie.Need-cast-at Inv-loop μ-loop
-cast-at c = omega (arith, c .before .is-expected .ensures .inside (c .if1 .taken))
+cast-at c = search of-row
 
 add-at : tie.Need-add-at Inv-loop μ-loop
-add-at c = omega (arith, c .before .is-expected .ensures .inside (c .if1 .taken))
+add-at c = search of-row
 
 add-at-2 : tie.Need-add-at-2 Inv-loop μ-loop
-add-at-2 c = omega (arith, c .before .is-expected .ensures .inside (c .if1 .taken))
+add-at-2 c = search of-row
 
 add-low : tie.Need-add-low Inv-loop μ-loop
 add-low c = search needs
@@ -71,7 +71,7 @@ loop-less c = search needs
 loop-again : tie.Need-loop-again Inv-loop μ-loop
 loop-again c =
     let l = c .before .before .before in
-    row-more _ _ _ _ _ _ _ _ _ _ (l .before .loop .inv) (l .loop-test .taken) (c .before .is-expected .ensures) (c .if1 .taken)
+    row-more _ _ _ _ _ _ _ _ _ _ (l .before .loop .inv) (l .loop-test .taken) (search row-stands)
 
 same-length : tie.Need-same-length Inv-loop μ-loop
 same-length c = search needs
