@@ -29,6 +29,11 @@ compared g ps i j = verdict (asGood g ps i j) (asGood g ps j i)
 
 -- ---- the offset of the 'first choice or value field that a policy in force forbids'
 
+-- the first one's, or else the next one's
+abbrev pub orNext : Option ℕ → Option ℕ → Option ℕ
+orNext none o = o
+orNext (some x) o = some x
+
 -- among the values of variable k and those after it, the first of which stands at o
 unfoldable pub forbiddenValue : List Policy → ℕ → ℕ → List Variable → List ℤ → ℕ → Option ℕ
 forbiddenValue ps n k [] xs o = none
@@ -40,10 +45,6 @@ forbiddenValue ps n k (v ∷ vs) (x ∷ xs) o =
 unfoldable pub forbiddenEntry : List Node → List Policy → Entry → ℕ → Option ℕ
 forbiddenEntry g ps e o =
     cond (choiceMeets g ps e) (forbiddenValue ps (e .node) 0 (nodeAt g (e .node) .variables) (e .values) (o + 4)) (some (o + 3))
-
-abbrev pub orNext : Option ℕ → Option ℕ → Option ℕ
-orNext none o = o
-orNext (some x) o = some x
 
 -- in entries that stand from o on
 unfoldable pub forbiddenFrom : List Node → List Policy → List Entry → ℕ → Option ℕ
