@@ -1,1 +1,1 @@
-// What each public call answers and leaves in its buffer; no code.
+// What each public call answers and leaves in its buffer, and what the program prints; no code.

@@ -16,7 +16,7 @@ use Rattle.fields.proofs.Reading.{whole-got}
 use Rattle.fields.proofs.Bytes.{be-same}
 use Rattle.lines.specs.Record.{Pass, PS, passAt}
 use Rattle.lines.specs.Line.{badLineOf}
-use Rattle.passplan.specs.Program.{lineFor, ends, linesAt, lastAt}
+use Rattle.calls.specs.Program.{lineFor, ends, linesAt, lastAt}
 
 module _ (s t : List ℕ) where
   -- ---- a record inside the first part

@@ -21,13 +21,14 @@ use Rattle.instances.specs.Instance.{Entry}
 use Rattle.instances.specs.File.{encode, mostBytes}
 use Rattle.model.specs.Reconciling.{reconciled}
 use Rattle.calls.specs.Calls.{given, reconciling}
+use Rattle.calls.specs.Program.{lineIn, passLine, lineFor, ends, linesAt, lastAt}
 use Rattle.calls.proofs.Inputs.{inputs-all}
 use Rattle.lines.specs.Record.{Pass, passAt, passIn}
 use Rattle.lines.specs.Line.{lineOf, badLineOf, Laid}
 use Rattle.lines.specs.declared.PassRead.{PassRead}
 use Rattle.lines.specs.declared.PassRead.the-variants.{Days, NoPass}
 use Rattle.lines.proofs.Record.{pass-taken, no-pass-stops}
-use Rattle.passplan.specs.Program.{lineIn, mostLine, passLine, lineFor, ends, linesAt, lastAt, Answered, Printed}
+use Rattle.passplan.specs.Program.{mostLine, Answered, Printed}
 use Rattle.passplan.specs.declared.Place.{Place}
 
 -- ---- a length that was answered is within the buffer, which keeps its own

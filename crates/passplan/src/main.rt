@@ -10,7 +10,8 @@ ghost use Rattle.io.specs.Counts.{Counts};
 ghost use Rattle.lines.specs.Line.{Laid};
 ghost use Rattle.instances.specs.File.{mostBytes};
 ghost use Rattle.calls.specs.Calls.{reconciling};
-ghost use Rattle.passplan.specs.Program.{lineIn, mostLine, Answered, Printed};
+ghost use Rattle.calls.specs.Program.{lineIn};
+ghost use Rattle.passplan.specs.Program.{mostLine, Answered, Printed};
 
 // Where the lines end, and whether the run ends there too.
 pub struct Place {
