@@ -1,11 +1,11 @@
--- The cases to hold the definitions to (01), those marked *: one table, from bytes to bytes.
+-- The cases to hold the definitions to (01), one table from bytes to bytes: those with *, the others of its list, and bad PS.
 -- Rests on computing the definitions.
 use mathlib.Core.Path.{_≡_, refl}
-use mathlib.Core.List.{List, [], _∷_}
+use mathlib.Core.List.{List, [], _∷_, _++_}
 use Prim.Native.Nat.{ℕ}
 use lib.Count.{trailingZeros}
-use Rattle.fields.specs.Answers.{judged, success}
-use Rattle.fields.specs.Outcomes.{placed, refused}
+use Rattle.fields.specs.Answers.{judged}
+use Rattle.fields.specs.Outcomes.{placed}
 use Rattle.fields.specs.Reading.{part, be, whole, field, mark, many, ended}
 use Rattle.fields.specs.Writing.{spell, put}
 use Rattle.numbers.specs.Bits.{bit, ones, with, turned, withAll}
@@ -19,101 +19,163 @@ use Rattle.model.specs.Comparing.{compared, forbiddenValue, forbiddenEntry, for
 use Rattle.model.specs.Order.{betterBy, better, entryAt, within, goodChoice, goodAt, goodStep, good, asGood}
 use Rattle.model.specs.Reconciling.{best, taken, canStep, can, plan, reconcile, own, both, restrict, restrictAll, combinedFrom, combined, least, leastEach, reconciled}
 use Rattle.model.specs.Satisfaction.{columnOf, rank, conditionAt, admits, meets, allowed, admitted, choiceMeets}
+use Rattle.lines.specs.Record.{passAt}
+use Rattle.lines.specs.Line.{digits, decimal, hexDigit, hex, words, line, result, lineOf, badLineOf}
+use Rattle.lines.proofs.ReadBack.{halfOf, bytesOf}
+use Rattle.lines.proofs.Texts.{codes, lowered, bytes}
 use Rattle.calls.specs.Inputs.{withSchema, withPolicies, withPass, withInForce}
 use Rattle.calls.specs.Calls.{given, reconciling, permitted, checkingInForce, checking, comparingInForce, comparing}
+use Rattle.calls.specs.Program.{lineIn, passLine, lineFor, ends, linesAt}
 
--- the program's schema.bin
+-- 'schema.bin'
 pub example-schema : List ℕ
-example-schema = 83 ∷ 72 ∷ 3 ∷ 83 ∷ 78 ∷ 1 ∷ 2 ∷ 1 ∷ 2 ∷ 0 ∷ 83 ∷ 78 ∷ 1 ∷ 0 ∷ 1 ∷ 0 ∷ 0 ∷ 0 ∷ 0 ∷ 1 ∷ 0 ∷ 0 ∷ 0 ∷ 10 ∷ 83 ∷ 78 ∷ 1 ∷ 0 ∷ 0 ∷ []
+example-schema = bytes "534803 534E0102010200 534E01000100000000010000000A 534E010000"
 
--- the program's policies.bin
+-- 'policies.bin'
 pub example-policies : List ℕ
-example-policies = 80 ∷ 72 ∷ 0 ∷ 100 ∷ 0 ∷ 100 ∷ 1 ∷ 80 ∷ 78 ∷ 0 ∷ 0 ∷ 5 ∷ 80 ∷ 72 ∷ 0 ∷ 101 ∷ 0 ∷ 200 ∷ 2 ∷ 80 ∷ 78 ∷ 0 ∷ 1 ∷ 0 ∷ 80 ∷ 78 ∷ 1 ∷ 0 ∷ 0 ∷ 0 ∷ 4 ∷ 0 ∷ 0 ∷ 0 ∷ 8 ∷ []
+example-policies = bytes "50480064006401 504E000005 5048006500C802 504E000100 504E010000000400000008"
+
+-- 'input'
+pub example-input : List ℕ
+example-input = bytes "505300640064 505300640065 505300650065 505300650064"
 
 -- 'a third policy on day 100, node 1 in 20..30'
-pub three : List ℕ
-three = 80 ∷ 72 ∷ 0 ∷ 100 ∷ 0 ∷ 100 ∷ 1 ∷ 80 ∷ 78 ∷ 0 ∷ 0 ∷ 5 ∷ 80 ∷ 72 ∷ 0 ∷ 101 ∷ 0 ∷ 200 ∷ 2 ∷ 80 ∷ 78 ∷ 0 ∷ 1 ∷ 0 ∷ 80 ∷ 78 ∷ 1 ∷ 0 ∷ 0 ∷ 0 ∷ 4 ∷ 0 ∷ 0 ∷ 0 ∷ 8 ∷ 80 ∷ 72 ∷ 0 ∷ 100 ∷ 0 ∷ 100 ∷ 1 ∷ 80 ∷ 78 ∷ 1 ∷ 0 ∷ 0 ∷ 0 ∷ 20 ∷ 0 ∷ 0 ∷ 0 ∷ 30 ∷ []
+pub three-policies : List ℕ
+three-policies = example-policies ++ bytes "50480064006401 504E01000000140000001E"
 
 -- 'a fourth on day 100, node 0 with ranks 0, 255'
-pub four : List ℕ
-four = 80 ∷ 72 ∷ 0 ∷ 100 ∷ 0 ∷ 100 ∷ 1 ∷ 80 ∷ 78 ∷ 0 ∷ 0 ∷ 5 ∷ 80 ∷ 72 ∷ 0 ∷ 101 ∷ 0 ∷ 200 ∷ 2 ∷ 80 ∷ 78 ∷ 0 ∷ 1 ∷ 0 ∷ 80 ∷ 78 ∷ 1 ∷ 0 ∷ 0 ∷ 0 ∷ 4 ∷ 0 ∷ 0 ∷ 0 ∷ 8 ∷ 80 ∷ 72 ∷ 0 ∷ 100 ∷ 0 ∷ 100 ∷ 1 ∷ 80 ∷ 78 ∷ 1 ∷ 0 ∷ 0 ∷ 0 ∷ 20 ∷ 0 ∷ 0 ∷ 0 ∷ 30 ∷ 80 ∷ 72 ∷ 0 ∷ 100 ∷ 0 ∷ 100 ∷ 1 ∷ 80 ∷ 78 ∷ 0 ∷ 0 ∷ 255 ∷ []
+pub four-policies : List ℕ
+four-policies = three-policies ++ bytes "50480064006401 504E0000FF"
 
 -- 'domain −5..−1'
 pub signed-schema : List ℕ
-signed-schema = 83 ∷ 72 ∷ 1 ∷ 83 ∷ 78 ∷ 1 ∷ 0 ∷ 1 ∷ 0 ∷ 255 ∷ 255 ∷ 255 ∷ 251 ∷ 255 ∷ 255 ∷ 255 ∷ 255 ∷ []
+signed-schema = bytes "534801 534E01000100FFFFFFFBFFFFFFFF"
 
 -- 'condition −3..10'
 pub signed-policies : List ℕ
-signed-policies = 80 ∷ 72 ∷ 0 ∷ 1 ∷ 0 ∷ 1 ∷ 1 ∷ 80 ∷ 78 ∷ 0 ∷ 255 ∷ 255 ∷ 255 ∷ 253 ∷ 0 ∷ 0 ∷ 0 ∷ 10 ∷ []
+signed-policies = bytes "50480001000101 504E00FFFFFFFD0000000A"
 
 -- 'size 32'
 pub mask-schema : List ℕ
-mask-schema = 83 ∷ 72 ∷ 1 ∷ 83 ∷ 78 ∷ 1 ∷ 0 ∷ 1 ∷ 1 ∷ 32 ∷ []
+mask-schema = bytes "534801 534E0100010120"
 
--- 'masks 80000000 and C0000000'
+-- 'masks 80000000 and C0000000 (hex)'
 pub mask-policies : List ℕ
-mask-policies = 80 ∷ 72 ∷ 0 ∷ 1 ∷ 0 ∷ 1 ∷ 1 ∷ 80 ∷ 78 ∷ 0 ∷ 128 ∷ 0 ∷ 0 ∷ 0 ∷ 80 ∷ 72 ∷ 0 ∷ 1 ∷ 0 ∷ 1 ∷ 1 ∷ 80 ∷ 78 ∷ 0 ∷ 192 ∷ 0 ∷ 0 ∷ 0 ∷ []
+mask-policies = bytes "50480001000101 504E0080000000 50480001000101 504E00C0000000"
+
+-- 'size 5'
+pub five-schema : List ℕ
+five-schema = bytes "534801 534E0100010105"
 
 -- 'node 0 all {1,2}, node 1 one {2,3}'
 pub shared-schema : List ℕ
-shared-schema = 83 ∷ 72 ∷ 4 ∷ 83 ∷ 78 ∷ 0 ∷ 2 ∷ 1 ∷ 2 ∷ 0 ∷ 83 ∷ 78 ∷ 1 ∷ 2 ∷ 2 ∷ 3 ∷ 0 ∷ 83 ∷ 78 ∷ 1 ∷ 0 ∷ 0 ∷ 83 ∷ 78 ∷ 1 ∷ 0 ∷ 0 ∷ []
-
--- 'choosing 3 reaches all four'
-pub shared-instance : List ℕ
-shared-instance = 73 ∷ 72 ∷ 4 ∷ 73 ∷ 78 ∷ 0 ∷ 255 ∷ 73 ∷ 78 ∷ 1 ∷ 3 ∷ 73 ∷ 78 ∷ 2 ∷ 255 ∷ 73 ∷ 78 ∷ 3 ∷ 255 ∷ []
+shared-schema = bytes "534804 534E0002010200 534E0102020300 534E010000 534E010000"
 
 -- 'node 0 all {1,2}, both kind 1'
 pub two-schema : List ℕ
-two-schema = 83 ∷ 72 ∷ 5 ∷ 83 ∷ 78 ∷ 0 ∷ 2 ∷ 1 ∷ 2 ∷ 0 ∷ 83 ∷ 78 ∷ 1 ∷ 2 ∷ 3 ∷ 4 ∷ 0 ∷ 83 ∷ 78 ∷ 1 ∷ 2 ∷ 3 ∷ 4 ∷ 0 ∷ 83 ∷ 78 ∷ 1 ∷ 0 ∷ 0 ∷ 83 ∷ 78 ∷ 1 ∷ 0 ∷ 0 ∷ []
-
--- better at node 1
-pub first-instance : List ℕ
-first-instance = 73 ∷ 72 ∷ 5 ∷ 73 ∷ 78 ∷ 0 ∷ 255 ∷ 73 ∷ 78 ∷ 1 ∷ 3 ∷ 73 ∷ 78 ∷ 2 ∷ 4 ∷ 73 ∷ 78 ∷ 3 ∷ 255 ∷ 73 ∷ 78 ∷ 4 ∷ 255 ∷ []
-
--- better at node 2
-pub second-instance : List ℕ
-second-instance = 73 ∷ 72 ∷ 5 ∷ 73 ∷ 78 ∷ 0 ∷ 255 ∷ 73 ∷ 78 ∷ 1 ∷ 4 ∷ 73 ∷ 78 ∷ 2 ∷ 3 ∷ 73 ∷ 78 ∷ 3 ∷ 255 ∷ 73 ∷ 78 ∷ 4 ∷ 255 ∷ []
+two-schema = bytes "534805 534E0002010200 534E0102030400 534E0102030400 534E010000 534E010000"
 
 -- a buffer that holds something
 pub buffer : List ℕ
-buffer = 7 ∷ 7 ∷ 7 ∷ 7 ∷ 7 ∷ 7 ∷ 7 ∷ 7 ∷ 7 ∷ 7 ∷ 7 ∷ 7 ∷ 7 ∷ 7 ∷ 7 ∷ 7 ∷ 7 ∷ 7 ∷ 7 ∷ 7 ∷ []
+buffer = bytes "E0E1E2E3E4E5E6E7 E8E9EAEBECEDEEEF F0F1F2F3"
 
 pub record Cases : Type 0 where
-  -- the program's four lines
-  pub line-1 : reconciling example-schema example-policies 100 100 buffer ≡ record { answer = success 15; buffer = 73 ∷ 72 ∷ 2 ∷ 73 ∷ 78 ∷ 0 ∷ 1 ∷ 73 ∷ 78 ∷ 1 ∷ 255 ∷ 0 ∷ 0 ∷ 0 ∷ 1 ∷ 7 ∷ 7 ∷ 7 ∷ 7 ∷ 7 ∷ [] }
-  pub line-2 : reconciling example-schema example-policies 100 101 buffer ≡ record { answer = success 15; buffer = 73 ∷ 72 ∷ 2 ∷ 73 ∷ 78 ∷ 0 ∷ 1 ∷ 73 ∷ 78 ∷ 1 ∷ 255 ∷ 0 ∷ 0 ∷ 0 ∷ 4 ∷ 7 ∷ 7 ∷ 7 ∷ 7 ∷ 7 ∷ [] }
-  pub line-3 : reconciling example-schema example-policies 101 101 buffer ≡ record { answer = success 11; buffer = 73 ∷ 72 ∷ 2 ∷ 73 ∷ 78 ∷ 0 ∷ 2 ∷ 73 ∷ 78 ∷ 2 ∷ 255 ∷ 7 ∷ 7 ∷ 7 ∷ 7 ∷ 7 ∷ 7 ∷ 7 ∷ 7 ∷ 7 ∷ [] }
-  pub line-4 : reconciling example-schema example-policies 101 100 buffer ≡ refused 12 3 0 buffer
-  -- 'pass 300 to 300: choice 1, value 1'
-  pub later : reconciling example-schema example-policies 300 300 buffer ≡ record { answer = success 15; buffer = 73 ∷ 72 ∷ 2 ∷ 73 ∷ 78 ∷ 0 ∷ 1 ∷ 73 ∷ 78 ∷ 1 ∷ 255 ∷ 0 ∷ 0 ∷ 0 ∷ 1 ∷ 7 ∷ 7 ∷ 7 ∷ 7 ∷ 7 ∷ [] }
-  -- 'pass 100 to 102: 12'
-  pub too-long : reconciling example-schema example-policies 100 102 buffer ≡ refused 12 3 0 buffer
-  -- 'choice 2'
-  pub third-policy : reconciling example-schema three 100 100 buffer ≡ record { answer = success 11; buffer = 73 ∷ 72 ∷ 2 ∷ 73 ∷ 78 ∷ 0 ∷ 2 ∷ 73 ∷ 78 ∷ 2 ∷ 255 ∷ 7 ∷ 7 ∷ 7 ∷ 7 ∷ 7 ∷ 7 ∷ 7 ∷ 7 ∷ 7 ∷ [] }
-  -- '13'
-  pub fourth-policy : reconciling example-schema four 100 100 buffer ≡ refused 13 0 0 buffer
-  -- 'value −3'
-  pub negative : reconciling signed-schema signed-policies 1 1 buffer ≡ record { answer = success 11; buffer = 73 ∷ 72 ∷ 1 ∷ 73 ∷ 78 ∷ 0 ∷ 255 ∷ 255 ∷ 255 ∷ 255 ∷ 253 ∷ 7 ∷ 7 ∷ 7 ∷ 7 ∷ 7 ∷ 7 ∷ 7 ∷ 7 ∷ 7 ∷ [] }
-  -- '31'
-  pub highest-bit : reconciling mask-schema mask-policies 1 1 buffer ≡ record { answer = success 8; buffer = 73 ∷ 72 ∷ 1 ∷ 73 ∷ 78 ∷ 0 ∷ 255 ∷ 31 ∷ 7 ∷ 7 ∷ 7 ∷ 7 ∷ 7 ∷ 7 ∷ 7 ∷ 7 ∷ 7 ∷ 7 ∷ 7 ∷ 7 ∷ [] }
-  pub shared : checking shared-schema [] 1 1 shared-instance ≡ success 0
-  -- 'each instance better at one: 3'
-  pub apart : comparing two-schema [] 1 1 first-instance second-instance ≡ success 3
+  -- what stands in hex is these bytes
+  pub hex-read : bytes "0aF9 FF" ≡ 0x0a ∷ 0xf9 ∷ 0xff ∷ []
+  -- * 'the four lines above'; the program takes up to 24 records at once, here from the start of the input
+  pub four-lines :
+      linesAt example-schema example-policies 0 example-input 24 0
+      ≡ codes "100 100 0 0 0 494802494e0001494e01ff00000001\n"
+      ++ codes "100 101 0 0 0 494802494e0001494e01ff00000004\n"
+      ++ codes "101 101 0 0 0 494802494e0002494e02ff\n"
+      ++ codes "101 100 12 3 0 -\n"
+  -- 'a bad PS prints - for a and b, its 1 or 2, file 3, the failing field's offset .., -, and ends the run': the second record
+  -- has wrong letters, the third is cut
+  pub wrong-letters :
+      linesAt example-schema example-policies 0 (bytes "505300640064 505400640065 505300650065") 24 0
+      ≡ codes "100 100 0 0 0 494802494e0001494e01ff00000001\n"
+      ++ codes "- - 1 3 6 -\n"
+  pub cut-record :
+      linesAt example-schema example-policies 0 (bytes "505300650064 505300650065 5053006500") 24 0
+      ≡ codes "101 100 12 3 0 -\n"
+      ++ codes "101 101 0 0 0 494802494e0002494e02ff\n"
+      ++ codes "- - 2 3 16 -\n"
+  -- 'from the start of the input', where 144 bytes went before
+  pub further-on :
+      linesAt example-schema example-policies 144 (bytes "505300650064 5053") 24 0
+      ≡ codes "101 100 12 3 0 -\n"
+      ++ codes "- - 2 3 152 -\n"
+  -- * 'pass 300 to 300: choice 1, value 1'
+  pub later :
+      reconciling example-schema example-policies 300 300 buffer
+      ≡ record { answer = record { number = 0; file = 0; offset = 0; value = 15 }; buffer = bytes "494802 494E0001 494E01FF00000001 EFF0F1F2F3" }
+  -- without a star: 'pass 100 to 102: 12'
+  pub too-long :
+      reconciling example-schema example-policies 100 102 buffer
+      ≡ record { answer = record { number = 12; file = 3; offset = 0; value = 0 }; buffer = buffer }
+  -- * 'pass 100 to 100, a third policy ..: choice 2'
+  pub third-policy :
+      reconciling example-schema three-policies 100 100 buffer
+      ≡ record { answer = record { number = 0; file = 0; offset = 0; value = 11 }; buffer = bytes "494802 494E0002 494E02FF EBECEDEEEF F0F1F2F3" }
+  -- * 'a fourth ..: 13'
+  pub fourth-policy :
+      reconciling example-schema four-policies 100 100 buffer
+      ≡ record { answer = record { number = 13; file = 0; offset = 0; value = 0 }; buffer = buffer }
+  -- without a star: 'line one: 15 bytes suffice, 14 bytes give refusal 14'
+  pub enough :
+      reconciling example-schema example-policies 100 100 (bytes "E0E1E2E3E4E5E6E7 E8E9EAEBECEDEE")
+      ≡ record { answer = record { number = 0; file = 0; offset = 0; value = 15 }; buffer = bytes "494802 494E0001 494E01FF00000001" }
+  pub too-short :
+      reconciling example-schema example-policies 100 100 (bytes "E0E1E2E3E4E5E6E7 E8E9EAEBECED")
+      ≡ record { answer = record { number = 14; file = 0; offset = 0; value = 0 }; buffer = bytes "E0E1E2E3E4E5E6E7 E8E9EAEBECED" }
+  -- without a star: 'empty schema: 2, file 1, offset 0'
+  pub no-schema :
+      reconciling [] example-policies 100 100 buffer
+      ≡ record { answer = record { number = 2; file = 1; offset = 0; value = 0 }; buffer = buffer }
+  -- * 'domain −5..−1, condition −3..10: value −3'
+  pub negative :
+      reconciling signed-schema signed-policies 1 1 buffer
+      ≡ record { answer = record { number = 0; file = 0; offset = 0; value = 11 }; buffer = bytes "494801 494E00FFFFFFFFFD EBECEDEEEF F0F1F2F3" }
+  -- * 'size 32, masks 80000000 and C0000000 (hex): 31'
+  pub highest-bit :
+      reconciling mask-schema mask-policies 1 1 buffer
+      ≡ record { answer = record { number = 0; file = 0; offset = 0; value = 8 }; buffer = bytes "494801 494E00FF1F E8E9EAEBECEDEEEF F0F1F2F3" }
+  -- without a star: 'size 5: bit 4 passes, bit 5 gives 11'
+  pub bit-4 :
+      reconciling five-schema (bytes "50480001000101 504E0000000010") 1 1 buffer
+      ≡ record { answer = record { number = 0; file = 0; offset = 0; value = 8 }; buffer = bytes "494801 494E00FF04 E8E9EAEBECEDEEEF F0F1F2F3" }
+  pub bit-5 :
+      reconciling five-schema (bytes "50480001000101 504E0000000020") 1 1 buffer
+      ≡ record { answer = record { number = 11; file = 2; offset = 10; value = 0 }; buffer = buffer }
+  -- * 'node 0 all {1,2}, node 1 one {2,3}: choosing 3 reaches all four'
+  pub shared :
+      checking shared-schema [] 1 1 (bytes "494804 494E00FF 494E0103 494E02FF 494E03FF")
+      ≡ record { number = 0; file = 0; offset = 0; value = 0 }
+  -- * 'node 0 all {1,2}, both kind 1, each instance better at one: 3'
+  pub apart :
+      comparing two-schema [] 1 1 (bytes "494805 494E00FF 494E0103 494E0204 494E03FF 494E04FF") (bytes "494805 494E00FF 494E0104 494E0203 494E03FF 494E04FF")
+      ≡ record { number = 0; file = 0; offset = 0; value = 3 }
 
 pub cases : Cases
-unfolding trailingZeros example-schema example-policies three four signed-schema signed-policies mask-schema mask-policies shared-schema shared-instance two-schema first-instance second-instance buffer judged placed part be whole field mark many ended spell put bit ones with turned withAll successors links number listed variable variables variablesOf node nodes body schema schemaOf pass inForce forced positions rankCount ranks condition conditions ruleOf rule rules head policy onward policiesFrom policies policiesOf ruleFor rankOf conditionsOf reached due noneBelow lowestDue valueWidth valueOf value values entryOf entry entries instance encodeValue encodeValues encodeEntry encodeEntries encode chooses reaches rightChoice inDomain has plannedFrom planned valuesFrom planOf compared forbiddenValue forbiddenEntry forbiddenFrom forbidden betterBy better entryAt within goodChoice goodAt goodStep good asGood best taken canStep can plan reconcile own both restrict restrictAll combinedFrom combined least leastEach reconciled columnOf rank conditionAt admits meets allowed admitted choiceMeets withSchema withPolicies withPass withInForce given reconciling permitted checkingInForce checking comparingInForce comparing
+unfolding trailingZeros example-schema example-policies example-input three-policies four-policies signed-schema signed-policies mask-schema mask-policies five-schema shared-schema two-schema buffer judged placed part be whole field mark many ended spell put bit ones with turned withAll successors links number listed variable variables variablesOf node nodes body schema schemaOf pass inForce forced positions rankCount ranks condition conditions ruleOf rule rules head policy onward policiesFrom policies policiesOf ruleFor rankOf conditionsOf reached due noneBelow lowestDue valueWidth valueOf value values entryOf entry entries instance encodeValue encodeValues encodeEntry encodeEntries encode chooses reaches rightChoice inDomain has plannedFrom planned valuesFrom planOf compared forbiddenValue forbiddenEntry forbiddenFrom forbidden betterBy better entryAt within goodChoice goodAt goodStep good asGood best taken canStep can plan reconcile own both restrict restrictAll combinedFrom combined least leastEach reconciled columnOf rank conditionAt admits meets allowed admitted choiceMeets passAt digits decimal hexDigit hex words line result lineOf badLineOf halfOf bytesOf codes lowered bytes withSchema withPolicies withPass withInForce given reconciling permitted checkingInForce checking comparingInForce comparing lineIn passLine lineFor ends linesAt
 cases =
     record {
-      line-1 = refl;
-      line-2 = refl;
-      line-3 = refl;
-      line-4 = refl;
+      hex-read = refl;
+      four-lines = refl;
+      wrong-letters = refl;
+      cut-record = refl;
+      further-on = refl;
       later = refl;
       too-long = refl;
       third-policy = refl;
       fourth-policy = refl;
+      enough = refl;
+      too-short = refl;
+      no-schema = refl;
       negative = refl;
       highest-bit = refl;
+      bit-4 = refl;
+      bit-5 = refl;
       shared = refl;
       apart = refl;
     }
