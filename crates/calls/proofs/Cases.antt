@@ -1,6 +1,7 @@
 -- The cases to hold the definitions to (01), one table from bytes to bytes: those with *, the others of its list, and bad PS.
 -- Rests on computing the definitions.
 use mathlib.Core.Path.{_≡_, refl}
+use mathlib.Core.Bool.{true, false}
 use mathlib.Core.List.{List, [], _∷_, _++_}
 use Prim.Native.Nat.{ℕ}
 use lib.Count.{trailingZeros}
@@ -25,7 +26,7 @@ use Rattle.lines.proofs.ReadBack.{halfOf, bytesOf}
 use Rattle.lines.proofs.Texts.{codes, lowered, bytes}
 use Rattle.calls.specs.Inputs.{withSchema, withPolicies, withPass, withInForce}
 use Rattle.calls.specs.Calls.{given, reconciling, permitted, checkingInForce, checking, comparingInForce, comparing}
-use Rattle.calls.specs.Program.{lineIn, passLine, lineFor, ends, linesAt}
+use Rattle.calls.specs.Program.{lineIn, passLine, lineFor, ends, linesAt, lastAt}
 
 -- 'schema.bin'
 pub example-schema : List ℕ
@@ -38,6 +39,14 @@ example-policies = bytes "50480064006401 504E000005 5048006500C802 504E000100 50
 -- 'input'
 pub example-input : List ℕ
 example-input = bytes "505300640064 505300640065 505300650065 505300650064"
+
+-- an input whose second record has wrong letters
+pub letters-input : List ℕ
+letters-input = bytes "505300640064 505400640065 505300650065"
+
+-- an input whose third record is cut
+pub cut-input : List ℕ
+cut-input = bytes "505300650064 505300650065 5053006500"
 
 -- 'a third policy on day 100, node 1 in 20..30'
 pub three-policies : List ℕ
@@ -67,6 +76,14 @@ mask-policies = bytes "50480001000101 504E0080000000 50480001000101 504E00C00000
 pub five-schema : List ℕ
 five-schema = bytes "534801 534E0100010105"
 
+-- 'bit 4'
+pub bit-4-policies : List ℕ
+bit-4-policies = bytes "50480001000101 504E0000000010"
+
+-- 'bit 5'
+pub bit-5-policies : List ℕ
+bit-5-policies = bytes "50480001000101 504E0000000020"
+
 -- 'node 0 all {1,2}, node 1 one {2,3}'
 pub shared-schema : List ℕ
 shared-schema = bytes "534804 534E0002010200 534E0102020300 534E010000 534E010000"
@@ -82,29 +99,34 @@ buffer = bytes "E0E1E2E3E4E5E6E7 E8E9EAEBECEDEEEF F0F1F2F3"
 pub record Cases : Type 0 where
   -- what stands in hex is these bytes
   pub hex-read : bytes "0aF9 FF" ≡ 0x0a ∷ 0xf9 ∷ 0xff ∷ []
-  -- * 'the four lines above'; the program takes up to 24 records at once, here from the start of the input
+  -- * 'the four lines above'; the program takes up to 24 records at once, and goes on after these
   pub four-lines :
       linesAt example-schema example-policies 0 example-input 24 0
       ≡ codes "100 100 0 0 0 494802494e0001494e01ff00000001\n"
       ++ codes "100 101 0 0 0 494802494e0001494e01ff00000004\n"
       ++ codes "101 101 0 0 0 494802494e0002494e02ff\n"
       ++ codes "101 100 12 3 0 -\n"
-  -- 'a bad PS prints - for a and b, its 1 or 2, file 3, the failing field's offset .., -, and ends the run': the second record
-  -- has wrong letters, the third is cut
-  pub wrong-letters :
-      linesAt example-schema example-policies 0 (bytes "505300640064 505400640065 505300650065") 24 0
+  pub four-go-on : lastAt example-input 24 0 ≡ false
+  -- 'number, file, offset in decimal': a mask at byte 10 of the policies
+  pub offset-line : linesAt five-schema bit-5-policies 0 (bytes "505300010001") 24 0 ≡ codes "1 1 11 2 10 -\n"
+  -- 'a bad PS prints - for a and b, its 1 or 2, file 3, the failing field's offset from the start of the input, -, and ends the run'
+  pub letters-lines :
+      linesAt example-schema example-policies 0 letters-input 24 0
       ≡ codes "100 100 0 0 0 494802494e0001494e01ff00000001\n"
       ++ codes "- - 1 3 6 -\n"
-  pub cut-record :
-      linesAt example-schema example-policies 0 (bytes "505300650064 505300650065 5053006500") 24 0
+  pub letters-end : lastAt letters-input 24 0 ≡ true
+  pub cut-lines :
+      linesAt example-schema example-policies 0 cut-input 24 0
       ≡ codes "101 100 12 3 0 -\n"
       ++ codes "101 101 0 0 0 494802494e0002494e02ff\n"
       ++ codes "- - 2 3 16 -\n"
-  -- 'from the start of the input', where 144 bytes went before
-  pub further-on :
-      linesAt example-schema example-policies 144 (bytes "505300650064 5053") 24 0
+  pub cut-end : lastAt cut-input 24 0 ≡ true
+  -- the same where 144 bytes of the input went before
+  pub cut-further-on :
+      linesAt example-schema example-policies 144 cut-input 24 0
       ≡ codes "101 100 12 3 0 -\n"
-      ++ codes "- - 2 3 152 -\n"
+      ++ codes "101 101 0 0 0 494802494e0002494e02ff\n"
+      ++ codes "- - 2 3 160 -\n"
   -- * 'pass 300 to 300: choice 1, value 1'
   pub later :
       reconciling example-schema example-policies 300 300 buffer
@@ -142,10 +164,10 @@ pub record Cases : Type 0 where
       ≡ record { answer = record { number = 0; file = 0; offset = 0; value = 8 }; buffer = bytes "494801 494E00FF1F E8E9EAEBECEDEEEF F0F1F2F3" }
   -- without a star: 'size 5: bit 4 passes, bit 5 gives 11'
   pub bit-4 :
-      reconciling five-schema (bytes "50480001000101 504E0000000010") 1 1 buffer
+      reconciling five-schema bit-4-policies 1 1 buffer
       ≡ record { answer = record { number = 0; file = 0; offset = 0; value = 8 }; buffer = bytes "494801 494E00FF04 E8E9EAEBECEDEEEF F0F1F2F3" }
   pub bit-5 :
-      reconciling five-schema (bytes "50480001000101 504E0000000020") 1 1 buffer
+      reconciling five-schema bit-5-policies 1 1 buffer
       ≡ record { answer = record { number = 11; file = 2; offset = 10; value = 0 }; buffer = buffer }
   -- * 'node 0 all {1,2}, node 1 one {2,3}: choosing 3 reaches all four'
   pub shared :
@@ -157,14 +179,18 @@ pub record Cases : Type 0 where
       ≡ record { number = 0; file = 0; offset = 0; value = 3 }
 
 pub cases : Cases
-unfolding trailingZeros example-schema example-policies example-input three-policies four-policies signed-schema signed-policies mask-schema mask-policies five-schema shared-schema two-schema buffer judged placed part be whole field mark many ended spell put bit ones with turned withAll successors links number listed variable variables variablesOf node nodes body schema schemaOf pass inForce forced positions rankCount ranks condition conditions ruleOf rule rules head policy onward policiesFrom policies policiesOf ruleFor rankOf conditionsOf reached due noneBelow lowestDue valueWidth valueOf value values entryOf entry entries instance encodeValue encodeValues encodeEntry encodeEntries encode chooses reaches rightChoice inDomain has plannedFrom planned valuesFrom planOf compared forbiddenValue forbiddenEntry forbiddenFrom forbidden betterBy better entryAt within goodChoice goodAt goodStep good asGood best taken canStep can plan reconcile own both restrict restrictAll combinedFrom combined least leastEach reconciled columnOf rank conditionAt admits meets allowed admitted choiceMeets passAt digits decimal hexDigit hex words line result lineOf badLineOf halfOf bytesOf codes lowered bytes withSchema withPolicies withPass withInForce given reconciling permitted checkingInForce checking comparingInForce comparing lineIn passLine lineFor ends linesAt
+unfolding trailingZeros example-schema example-policies example-input letters-input cut-input three-policies four-policies signed-schema signed-policies mask-schema mask-policies five-schema bit-4-policies bit-5-policies shared-schema two-schema buffer judged placed part be whole field mark many ended spell put bit ones with turned withAll successors links number listed variable variables variablesOf node nodes body schema schemaOf pass inForce forced positions rankCount ranks condition conditions ruleOf rule rules head policy onward policiesFrom policies policiesOf ruleFor rankOf conditionsOf reached due noneBelow lowestDue valueWidth valueOf value values entryOf entry entries instance encodeValue encodeValues encodeEntry encodeEntries encode chooses reaches rightChoice inDomain has plannedFrom planned valuesFrom planOf compared forbiddenValue forbiddenEntry forbiddenFrom forbidden betterBy better entryAt within goodChoice goodAt goodStep good asGood best taken canStep can plan reconcile own both restrict restrictAll combinedFrom combined least leastEach reconciled columnOf rank conditionAt admits meets allowed admitted choiceMeets passAt digits decimal hexDigit hex words line result lineOf badLineOf halfOf bytesOf codes lowered bytes withSchema withPolicies withPass withInForce given reconciling permitted checkingInForce checking comparingInForce comparing lineIn passLine lineFor ends linesAt lastAt
 cases =
     record {
       hex-read = refl;
       four-lines = refl;
-      wrong-letters = refl;
-      cut-record = refl;
-      further-on = refl;
+      four-go-on = refl;
+      offset-line = refl;
+      letters-lines = refl;
+      letters-end = refl;
+      cut-lines = refl;
+      cut-end = refl;
+      cut-further-on = refl;
       later = refl;
       too-long = refl;
       third-policy = refl;
