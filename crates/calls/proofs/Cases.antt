@@ -8,14 +8,14 @@ use lib.Count.{trailingZeros}
 use Rattle.fields.specs.Answers.{judged}
 use Rattle.fields.specs.Outcomes.{placed}
 use Rattle.fields.specs.Reading.{part, be, whole, field, mark, many, ended}
-use Rattle.fields.specs.Writing.{spell, put}
-use Rattle.numbers.specs.Bits.{bit, ones, with, turned, withAll}
-use Rattle.schema.specs.Schema.{successors, links, number, listed, variable, variables, variablesOf, node, nodes, body, schema, schemaOf}
-use Rattle.policies.specs.Pass.{pass, inForce, forced, positions}
-use Rattle.policies.specs.Policies.{rankCount, ranks, condition, conditions, ruleOf, rule, rules, head, policy, onward, policiesFrom, policies, policiesOf, ruleFor, rankOf, conditionsOf}
+use Rattle.fields.specs.Writing.{spell}
+use Rattle.numbers.specs.Bits.{bit, ones}
+use Rattle.schema.specs.Schema.{successors, links, number, listed, variable, variables, variablesOf, node, nodes, body, schema}
+use Rattle.policies.specs.Pass.{pass, inForce, forced}
+use Rattle.policies.specs.Policies.{rankCount, ranks, condition, conditions, ruleOf, rule, rules, head, policy, onward, policiesFrom, policies, ruleFor, rankOf, conditionsOf}
 use Rattle.instances.specs.File.{reached, due, noneBelow, lowestDue, valueWidth, valueOf, value, values, entryOf, entry, entries, instance, encodeValue, encodeValues, encodeEntry, encodeEntries, encode}
 use Rattle.instances.specs.Instance.{chooses, reaches, rightChoice, inDomain, has}
-use Rattle.instances.specs.Plan.{plannedFrom, planned, valuesFrom, planOf}
+use Rattle.instances.specs.Plan.{plannedFrom, planned}
 use Rattle.model.specs.Comparing.{compared, forbiddenValue, forbiddenEntry, forbiddenFrom, forbidden}
 use Rattle.model.specs.Order.{betterBy, better, entryAt, within, goodChoice, goodAt, goodStep, good, asGood}
 use Rattle.model.specs.Reconciling.{best, taken, canStep, can, plan, reconcile, own, both, restrict, restrictAll, combinedFrom, combined, least, leastEach, reconciled}
@@ -179,7 +179,7 @@ pub record Cases : Type 0 where
       ≡ record { number = 0; file = 0; offset = 0; value = 3 }
 
 pub cases : Cases
-unfolding trailingZeros example-schema example-policies example-input letters-input cut-input three-policies four-policies signed-schema signed-policies mask-schema mask-policies five-schema bit-4-policies bit-5-policies shared-schema two-schema buffer judged placed part be whole field mark many ended spell put bit ones with turned withAll successors links number listed variable variables variablesOf node nodes body schema schemaOf pass inForce forced positions rankCount ranks condition conditions ruleOf rule rules head policy onward policiesFrom policies policiesOf ruleFor rankOf conditionsOf reached due noneBelow lowestDue valueWidth valueOf value values entryOf entry entries instance encodeValue encodeValues encodeEntry encodeEntries encode chooses reaches rightChoice inDomain has plannedFrom planned valuesFrom planOf compared forbiddenValue forbiddenEntry forbiddenFrom forbidden betterBy better entryAt within goodChoice goodAt goodStep good asGood best taken canStep can plan reconcile own both restrict restrictAll combinedFrom combined least leastEach reconciled columnOf rank conditionAt admits meets allowed admitted choiceMeets passAt digits decimal hexDigit hex words line result lineOf badLineOf halfOf bytesOf codes lowered bytes withSchema withPolicies withPass withInForce given reconciling permitted checkingInForce checking comparingInForce comparing lineIn passLine lineFor ends linesAt lastAt
+unfolding trailingZeros example-schema example-policies example-input letters-input cut-input three-policies four-policies signed-schema signed-policies mask-schema mask-policies five-schema bit-4-policies bit-5-policies shared-schema two-schema buffer judged placed part be whole field mark many ended spell bit ones successors links number listed variable variables variablesOf node nodes body schema pass inForce forced rankCount ranks condition conditions ruleOf rule rules head policy onward policiesFrom policies ruleFor rankOf conditionsOf reached due noneBelow lowestDue valueWidth valueOf value values entryOf entry entries instance encodeValue encodeValues encodeEntry encodeEntries encode chooses reaches rightChoice inDomain has plannedFrom planned compared forbiddenValue forbiddenEntry forbiddenFrom forbidden betterBy better entryAt within goodChoice goodAt goodStep good asGood best taken canStep can plan reconcile own both restrict restrictAll combinedFrom combined least leastEach reconciled columnOf rank conditionAt admits meets allowed admitted choiceMeets passAt digits decimal hexDigit hex words line result lineOf badLineOf halfOf bytesOf codes lowered bytes withSchema withPolicies withPass withInForce given reconciling permitted checkingInForce checking comparingInForce comparing lineIn passLine lineFor ends linesAt lastAt
 cases =
     record {
       hex-read = refl;
