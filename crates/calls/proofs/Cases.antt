@@ -29,11 +29,11 @@ use Rattle.calls.specs.Calls.{given, reconciling, permitted, checkingInF
 use Rattle.calls.specs.Program.{lineIn, passLine, lineFor, ends, linesAt, lastAt}
 
 -- 'schema.bin'
-pub example-schema : List ℕ
+unfoldable pub example-schema : List ℕ
 example-schema = bytes "534803 534E0102010200 534E01000100000000010000000A 534E010000"
 
 -- 'policies.bin'
-pub example-policies : List ℕ
+unfoldable pub example-policies : List ℕ
 example-policies = bytes "50480064006401 504E000005 5048006500C802 504E000100 504E010000000400000008"
 
 -- 'input'

@@ -6,3 +6,4 @@ pub mod Demand3
 pub mod Demand2
 pub mod ByCall
 pub mod Cases
+pub mod Rows
