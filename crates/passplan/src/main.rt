@@ -114,7 +114,26 @@ fn put_lines(
     }
 }
 
-// The first bytes of a file, as many as b has room for, and how many there are: 0 where it is missing.
+// The first bytes of an open file, as many as b has room for, and how many there are: 0 where a read fails.
+fn read_file(fd: i32, b: &mut [u8]) -> usize
+    ensures { λ r. ⌜ Counts r (now (b .exit)) ⌝ }
+{
+    let mut n: usize = 0;
+    while n < b.len() {
+        let got = libc::read(fd, &mut b[n..]);
+        if got < 0 {
+            return 0;
+        }
+        let more = io::count(got, &b[n..]);
+        if more == 0 {
+            return n;
+        }
+        n += more;
+    }
+    n
+}
+
+// The same of a file by its name: 0 where it is missing.
 fn load(path: &[u8], b: &mut [u8]) -> usize
     ensures { λ r. ⌜ Counts r (now (b .exit)) ⌝ }
 {
@@ -122,7 +141,7 @@ fn load(path: &[u8], b: &mut [u8]) -> usize
     if fd < 0 {
         return 0;
     }
-    let n = io::read_full(fd, b);
+    let n = read_file(fd, b);
     libc::close(fd);
     n
 }
