@@ -9,6 +9,7 @@ use std::path::{Path, PathBuf};
 use std::process::{self, Child, Command, Stdio};
 use std::sync::OnceLock;
 use std::sync::atomic::{AtomicU32, Ordering};
+use std::sync::mpsc::{self, RecvTimeoutError};
 use std::time::Duration;
 use std::{env, thread};
 
@@ -16,6 +17,8 @@ use reference::passplan;
 
 const PROGRAM: &str = concat!(env!("CARGO_MANIFEST_DIR"), "/../../target/bin/passplan");
 const FAULTS: &str = concat!(env!("CARGO_MANIFEST_DIR"), "/tests/program/faults.c");
+/// How long a run may take: many times what the longest does.
+const LONGEST: Duration = Duration::from_secs(60);
 /// A user who owns nothing.
 const NOBODY: u32 = 65_534;
 
@@ -125,7 +128,13 @@ impl<'a> Run<'a> {
         let program = self.command(&folder).spawn();
         let mut program = program.expect("passplan is built: rt check passplan");
         let (id, input) = (program.id(), program.stdin.take());
+        let (running, ended) = mpsc::channel::<()>();
         thread::scope(|scope| {
+            scope.spawn(move || {
+                if ended.recv_timeout(LONGEST) == Err(RecvTimeoutError::Timeout) {
+                    signal(id, "KILL");
+                }
+            });
             let mut fifos = vec![];
             for (name, source) in [("schema.bin", self.schema), ("policies.bin", self.policies)] {
                 if let Source::Pipe(bytes, step) = source {
@@ -140,11 +149,12 @@ impl<'a> Run<'a> {
             }
             let printed = self.take(&mut program);
             let status = program.wait().expect("the program ends");
+            drop(running);
             for fifo in fifos {
                 // Lets a writer go on to whom no reader came.
                 OpenOptions::new().read(true).write(true).open(fifo).expect("a FIFO");
             }
-            assert!(status.success());
+            assert!(status.success(), "{status}");
             printed
         })
     }
