@@ -26,7 +26,7 @@ use Rattle.model.proofs.Satisfaction.{in-force-iff}
 use Rattle.model.proofs.Comparing.{forbidden-none, compared-says}
 use Rattle.calls.specs.Inputs.{withSchema}
 use Rattle.calls.specs.Calls.{reconciling, permitted, checking, comparingInForce, comparing, copying}
-use Rattle.calls.proofs.Answers.{AcceptsWhen, RefusesWhen, Writes, placed-fits, placed-short, placed-14}
+use Rattle.calls.proofs.Answers.{AcceptsWhen, RefusesWhen, Writes, placed-fits, placed-short, placed-0, placed-14}
 use Rattle.calls.proofs.Accepted.{Accepted, checking-is, comparing-is, sound-read, sound-schema}
 use Rattle.calls.proofs.Demand3.{demand-3}
 
@@ -38,7 +38,12 @@ pub record Encodes (g : List Node) (s : List ℕ) : Type 0 where
 
 -- ---- where the schema is accepted
 
--- a file that encodes an instance, and a shorter buffer
+-- a file that encodes an instance, and a buffer long enough
+pub record Fitting (g : List Node) (s out : List ℕ) : Type 0 where
+  pub encodes : Encodes g s
+  pub enough : length s ≤ length out
+
+-- and a shorter one
 pub record TooLong (g : List Node) (s out : List ℕ) : Type 0 where
   pub encodes : Encodes g s
   pub shorter : length out < length s
@@ -46,7 +51,8 @@ pub record TooLong (g : List Node) (s out : List ℕ) : Type 0 where
 -- of the outcome of copying s into this buffer
 pub record Copied (g : List Node) (s out : List ℕ) (o : Outcome) : Type 0 where
   -- 'writes the instance it read'
-  pub writes : Encodes g s → length s ≤ length out → Writes s out o
+  pub writes : Fitting g s out → Writes s out o
+  pub answers-0 : o .answer .number ≡ 0 → Fitting g s out
   -- '14 last'
   pub short : RefusesWhen 14 (TooLong g s out) out o
 
@@ -104,12 +110,14 @@ module _ (f : List ℕ) (h : Bytes f) {g : List Node} {q : ℕ} (e : schema f �
       go (got i x) k =
           subst (λ (t : List ℕ). Copied g s out (placed t out)) (sym (read-encode g s c k))
           (record {
-            writes = λ E l. placed-fits s out l;
+            writes = λ F. placed-fits s out (F .enough);
+            answers-0 = λ n. record { encodes = read s c k; enough = placed-0 s out n };
             short = record { when = λ T. placed-short s out (T .shorter); only = λ n. record { encodes = read s c k; shorter = placed-14 s out n } };
           })
       go (bad n o) k =
           record {
-            writes = λ E l. absurd (let z : _≡_ {A = ℕ} 0 1 = (let y = same E k in cc) in omega arith);
+            writes = λ F. absurd (let z : _≡_ {A = ℕ} 0 1 = (let y = same (F .encodes) k in cc) in omega arith);
+            answers-0 = λ m. absurd (refused g s k m);
             short = record { when = λ T. absurd (let z : _≡_ {A = ℕ} 0 1 = (let y = same (T .encodes) k in cc) in omega arith); only = λ m. absurd (never-14 k m) };
           }
         where
