@@ -29,7 +29,7 @@ use Rattle.calls.specs.Calls.{given, reconciling, permitted, checkingInF
 use Rattle.calls.proofs.Answers.{Placed, fits, short, placed-is}
 
 -- 'schema, policies and pass are accepted if checking them gives no number with file 1, 2 or 3'
-pub record Accepted (f p : List ℕ) (a b : ℕ) : Type 0 where
+pub record InputsAccepted (f p : List ℕ) (a b : ℕ) : Type 0 where
   pub g : List Node
   pub ps : List Policy
   pub schema-end : ℕ
@@ -49,7 +49,7 @@ sound-read f h {g} e =
 
 -- ---- a call under accepted schema, policies and pass
 
-module _ {f p : List ℕ} {a b : ℕ} (A : Accepted f p a b) where
+module _ {f p : List ℕ} {a b : ℕ} (A : InputsAccepted f p a b) where
   pub call-is : {B : Type 0} (refuse : ℕ → ℕ → ℕ → B) (k : List Node → List Policy → B)
       → withSchema refuse f (λ g. withInForce refuse g p a b (k g)) ≡ k (A .g) (forced a b (A .ps))
   unfolding withSchema withPolicies withPass withInForce judged
@@ -104,7 +104,7 @@ breach-number {p = p} (of-policies {g} e d) = numbered (policies-numbered g p) d
 breach-number {a = a} {b} (of-pass e d c) = numbered (pass-numbered a b) c
 
 data Inputs (f p : List ℕ) (a b : ℕ) : Type 0 where
-  taken : Accepted f p a b → Inputs f p a b
+  taken : InputsAccepted f p a b → Inputs f p a b
   refused : {n file o : ℕ} → Breach f p a b n file o → Inputs f p a b
 
 inputs : (f p : List ℕ) (a b : ℕ) → Inputs f p a b
@@ -133,9 +133,9 @@ pub record NoInputRefused (r : Answer) : Type 0 where
 
 -- 'schema, policies and pass are accepted if checking them gives no number with file 1, 2 or 3', by each call
 pub record Acceptance (f p : List ℕ) (a b : ℕ) (s t out : List ℕ) : Type 0 where
-  pub reconcile : Accepted f p a b ↔ NoInputRefused (reconciling f p a b out .answer)
-  pub check : Accepted f p a b ↔ NoInputRefused (checking f p a b s)
-  pub compare : Accepted f p a b ↔ NoInputRefused (comparing f p a b s t)
+  pub reconcile : InputsAccepted f p a b ↔ NoInputRefused (reconciling f p a b out .answer)
+  pub check : InputsAccepted f p a b ↔ NoInputRefused (checking f p a b s)
+  pub compare : InputsAccepted f p a b ↔ NoInputRefused (comparing f p a b s t)
 
 of-file : (n file o v : ℕ) → (file ≡ 0) ⊎ (4 ≤ file) → NoInputRefused (record { number = n; file = file; offset = o; value = v })
 of-file n file o v (inl e) = record { schema = λ h. omega arith; policies = λ h. omega arith; pass = λ h. omega arith }
@@ -144,11 +144,11 @@ of-file n file o v (inr l) = record { schema = λ h. omega arith; policies = λ 
 -- a call's answer, where what it does then refuses none of the three
 by-answer : (f p : List ℕ) (a b : ℕ) {B : Type 0} (answer : B → Answer) (refuse : ℕ → ℕ → ℕ → B) → ((n file o : ℕ) → answer (refuse n file o) .file ≡ file)
     → (k : List Node → List Policy → B) → ((g : List Node) (ps : List Policy) → NoInputRefused (answer (k g ps)))
-    → Accepted f p a b ↔ NoInputRefused (answer (withSchema refuse f (λ g. withInForce refuse g p a b (k g))))
+    → InputsAccepted f p a b ↔ NoInputRefused (answer (withSchema refuse f (λ g. withInForce refuse g p a b (k g))))
 by-answer f p a b answer refuse files k clear =
     (λ A. subst (λ x. NoInputRefused (answer x)) (sym (call-is A refuse k)) (clear (A .g) (forced a b (A .ps))), λ h. back (inputs f p a b) h)
   where
-    back : Inputs f p a b → NoInputRefused (answer (withSchema refuse f (λ g. withInForce refuse g p a b (k g)))) → Accepted f p a b
+    back : Inputs f p a b → NoInputRefused (answer (withSchema refuse f (λ g. withInForce refuse g p a b (k g)))) → InputsAccepted f p a b
     back (taken A) h = A
     back (refused {n} {file} {o} e) h = absurd (which e (ap (λ x. answer x .file) (breach-is e refuse k) ∙ files n file o))
       where

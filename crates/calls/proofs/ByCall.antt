@@ -16,7 +16,7 @@ use Rattle.instances.specs.File.{instance}
 use Rattle.model.proofs.Relations.{ForbiddenField, First}
 use Rattle.calls.specs.Calls.{reconciling, checking, comparing, copying}
 use Rattle.calls.proofs.Answers.{AcceptsWhen, Alone, Untouched}
-use Rattle.calls.proofs.Accepted.{Accepted, Breach, NoInputRefused, acceptance}
+use Rattle.calls.proofs.Accepted.{InputsAccepted, Breach, NoInputRefused, acceptance}
 use Rattle.calls.proofs.Demand1.{demand-1}
 use Rattle.calls.proofs.Demand2.{EncodesMeeting, Compared, Copied, demand-2, round-trips}
 use Rattle.calls.proofs.Demand3.{Demand3, demand-3}
@@ -26,29 +26,29 @@ pub record Reconciles (f p : List ℕ) (a b : ℕ) (out : List ℕ) (o : Outcome
   pub refuses : {n file at : ℕ} → Breach f p a b n file at → o ≡ refused n file at out
   pub untouched : Untouched out o
   -- demand 3
-  pub accepted : Accepted f p a b ↔ NoInputRefused (o .answer)
-  pub best : (A : Accepted f p a b) → Demand3 f p a b A out o
+  pub accepted : InputsAccepted f p a b ↔ NoInputRefused (o .answer)
+  pub best : (A : InputsAccepted f p a b) → Demand3 f p a b A out o
 
 pub record Checks (f p : List ℕ) (a b : ℕ) (s : List ℕ) (r : Answer) : Type 0 where
   -- demand 1
   pub refuses : {n file at : ℕ} → Breach f p a b n file at → r ≡ refusal n file at
-  pub refuses-instance : (A : Accepted f p a b) {n at : ℕ} → instance (A .g) s ≡ bad n at → r ≡ refusal n 4 at
-  pub forbidden : (A : Accepted f p a b) {i : List Entry} {q : ℕ} → instance (A .g) s ≡ got i q
+  pub refuses-instance : (A : InputsAccepted f p a b) {n at : ℕ} → instance (A .g) s ≡ bad n at → r ≡ refusal n 4 at
+  pub forbidden : (A : InputsAccepted f p a b) {i : List Entry} {q : ℕ} → instance (A .g) s ≡ got i q
       → (at : ℕ) → (r ≡ refusal 18 4 at) ↔ First (ForbiddenField (A .g) (forced a b (A .ps)) i 3) at
   pub alone : Alone r
   -- demand 2
-  pub accepted : Accepted f p a b ↔ NoInputRefused r
-  pub accepts : (A : Accepted f p a b) → AcceptsWhen (EncodesMeeting f p a b A s) r
+  pub accepted : InputsAccepted f p a b ↔ NoInputRefused r
+  pub accepts : (A : InputsAccepted f p a b) → AcceptsWhen (EncodesMeeting f p a b A s) r
 
 pub record Compares (f p : List ℕ) (a b : ℕ) (s t : List ℕ) (r : Answer) : Type 0 where
   -- demand 1
   pub refuses : {n file at : ℕ} → Breach f p a b n file at → r ≡ refusal n file at
-  pub refuses-first : (A : Accepted f p a b) {n at : ℕ} → instance (A .g) s ≡ bad n at → r ≡ refusal n 4 at
-  pub refuses-second : (A : Accepted f p a b) {i : List Entry} {q n at : ℕ} → instance (A .g) s ≡ got i q → instance (A .g) t ≡ bad n at → r ≡ refusal n 5 at
+  pub refuses-first : (A : InputsAccepted f p a b) {n at : ℕ} → instance (A .g) s ≡ bad n at → r ≡ refusal n 4 at
+  pub refuses-second : (A : InputsAccepted f p a b) {i : List Entry} {q n at : ℕ} → instance (A .g) s ≡ got i q → instance (A .g) t ≡ bad n at → r ≡ refusal n 5 at
   pub alone : Alone r
   -- demand 2
-  pub accepted : Accepted f p a b ↔ NoInputRefused r
-  pub verdict : (A : Accepted f p a b) {i j : List Entry} {q x : ℕ} → instance (A .g) s ≡ got i q → instance (A .g) t ≡ got j x → Compared f p a b A i j r
+  pub accepted : InputsAccepted f p a b ↔ NoInputRefused r
+  pub verdict : (A : InputsAccepted f p a b) {i j : List Entry} {q x : ℕ} → instance (A .g) s ≡ got i q → instance (A .g) t ≡ got j x → Compared f p a b A i j r
 
 pub record Copies (f s out : List ℕ) (o : Outcome) : Type 0 where
   -- demand 1

@@ -31,7 +31,7 @@ use Rattle.calls.specs.Inputs.{withSchema}
 use Rattle.calls.specs.Calls.{given, reconciling, permitted, checkingInForce, checking, comparingInForce, comparing, copying}
 use Rattle.calls.proofs.Inputs.{schema-all, inputs-all}
 use Rattle.calls.proofs.Answers.{Alone, Untouched, refused-untouched, success-alone, refusal-alone, placed-untouched}
-use Rattle.calls.proofs.Accepted.{Accepted, checking-is, comparing-is, Breach, of-schema, reconciling-refused, checking-refused, comparing-refused, breach-number}
+use Rattle.calls.proofs.Accepted.{InputsAccepted, checking-is, comparing-is, Breach, of-schema, reconciling-refused, checking-refused, comparing-refused, breach-number}
 
 -- what the calls that take policies answer
 pub record Refused (f p : List ℕ) (a b : ℕ) (s t out : List ℕ) (n file o : ℕ) : Type 0 where
@@ -49,9 +49,9 @@ pub record SchemaRefused (f p : List ℕ) (a b : ℕ) (s t out : List ℕ) (n o 
 pub record InstanceRefused (f p : List ℕ) (a b : ℕ) (g : List Node) (s t out : List ℕ) (n o : ℕ) : Type 0 where
   pub number : n ≡ 0 → ⊥
   pub copy : copying f s out ≡ refused n 4 o out
-  pub check : Accepted f p a b → checking f p a b s ≡ refusal n 4 o
-  pub first : Accepted f p a b → comparing f p a b s t ≡ refusal n 4 o
-  pub second : Accepted f p a b → {i : List Entry} {q : ℕ} → instance g t ≡ got i q → comparing f p a b t s ≡ refusal n 5 o
+  pub check : InputsAccepted f p a b → checking f p a b s ≡ refusal n 4 o
+  pub first : InputsAccepted f p a b → comparing f p a b s t ≡ refusal n 4 o
+  pub second : InputsAccepted f p a b → {i : List Entry} {q : ℕ} → instance g t ≡ got i q → comparing f p a b t s ≡ refusal n 5 o
 
 pub record Demand1 (f p : List ℕ) (a b : ℕ) (s t out : List ℕ) : Type 0 where
   -- schema, policies, pass, then instances: 'calls check in that order'
@@ -60,7 +60,7 @@ pub record Demand1 (f p : List ℕ) (a b : ℕ) (s t out : List ℕ) : Type 0 wh
   pub instance-refused : {g : List Node} {q n o : ℕ} → schema f ≡ got g q → instance g s ≡ bad n o → InstanceRefused f p a b g s t out n o
   -- 'then the last rows': 13 and 14 are in demands 2 and 3;
   -- '18 first choice or value field that a policy in force forbids; file 4'
-  pub field-forbidden : (A : Accepted f p a b) {i : List Entry} {q : ℕ} → instance (A .g) s ≡ got i q
+  pub field-forbidden : (A : InputsAccepted f p a b) {i : List Entry} {q : ℕ} → instance (A .g) s ≡ got i q
       → (o : ℕ) → (checking f p a b s ≡ refusal 18 4 o) ↔ First (ForbiddenField (A .g) (forced a b (A .ps)) i 3) o
   -- 'if a file is cut': 2 at the field in which the first byte that is missing stands
   pub schema-cut-off : {g : List Node} {q : ℕ} → schema f ≡ got g q → (k : ℕ) → k < length f → SchemaRefused (take k f) p a b s t out 2 (fieldAt (schemaFields g) 0 k)
@@ -98,7 +98,7 @@ instance-refused f p a b s t out {g} e h =
       second = λ A k. comparing-is A t s ∙ rw (here A t ∙ k, here A s ∙ h);
     }
   where
-    here : (A : Accepted f p a b) (u : List ℕ) → instance (A .g) u ≡ instance g u
+    here : (A : InputsAccepted f p a b) (u : List ℕ) → instance (A .g) u ≡ instance g u
     here A u = ap (λ x. instance (nodesIn x) u) (sym (A .schema-read) ∙ e)
 
 permitted-alone : (o : Option ℕ) → Alone (permitted o)
@@ -111,7 +111,7 @@ unfolding permitted
 some-of none o e = absurd (let z : _≡_ {A = ℕ} 0 18 = ap (λ (r : Answer). r .number) e in omega arith)
 some-of (some x) o e = ap {B = Option ℕ} some (ap (λ (r : Answer). r .offset) e)
 
-field-forbidden : (f p : List ℕ) (a b : ℕ) (s : List ℕ) (A : Accepted f p a b) {i : List Entry} {q : ℕ} → instance (A .g) s ≡ got i q
+field-forbidden : (f p : List ℕ) (a b : ℕ) (s : List ℕ) (A : InputsAccepted f p a b) {i : List Entry} {q : ℕ} → instance (A .g) s ≡ got i q
     → (o : ℕ) → (checking f p a b s ≡ refusal 18 4 o) ↔ First (ForbiddenField (A .g) (forced a b (A .ps)) i 3) o
 unfolding judged permitted
 field-forbidden f p a b s A {i} e o =

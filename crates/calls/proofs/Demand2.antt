@@ -27,7 +27,7 @@ use Rattle.model.proofs.Comparing.{forbidden-none, compared-says}
 use Rattle.calls.specs.Inputs.{withSchema}
 use Rattle.calls.specs.Calls.{reconciling, permitted, checking, comparingInForce, comparing, copying}
 use Rattle.calls.proofs.Answers.{AcceptsWhen, RefusesWhen, Writes, placed-fits, placed-short, placed-0, placed-14}
-use Rattle.calls.proofs.Accepted.{Accepted, checking-is, comparing-is, sound-read, sound-schema}
+use Rattle.calls.proofs.Accepted.{InputsAccepted, checking-is, comparing-is, sound-read, sound-schema}
 use Rattle.calls.proofs.Demand3.{demand-3}
 
 -- 'it encodes an instance'
@@ -65,7 +65,7 @@ pub record RoundTrips (f : List ℕ) (g : List Node) : Type 0 where
 
 -- ---- where schema, policies and pass are
 
-module _ (f p : List ℕ) (a b : ℕ) (A : Accepted f p a b) where
+module _ (f p : List ℕ) (a b : ℕ) (A : InputsAccepted f p a b) where
   -- 'it encodes an instance that meets every policy in force on either day of the pass'
   pub record EncodesMeeting (s : List ℕ) : Type 0 where
     pub encodes : Encodes (A .g) s
@@ -132,7 +132,7 @@ unfolding permitted
 none-of none e = refl
 none-of (some x) e = absurd (omega arith)
 
-module _ (f p : List ℕ) (a b : ℕ) (h : Bytes f) (A : Accepted f p a b) where
+module _ (f p : List ℕ) (a b : ℕ) (h : Bytes f) (A : InputsAccepted f p a b) where
   judge : (g : Got (List Entry)) → Answer
   judge g = judged refusal 4 g (λ i. permitted (forbidden (A .g) (forced a b (A .ps)) i))
 
@@ -168,7 +168,7 @@ module _ (f p : List ℕ) (a b : ℕ) (h : Bytes f) (A : Accepted f p a b) where
       let L = D .answers-0 n in
       let W = D .otherwise (λ no. no (L .ours) (L .best .is-instance) (L .best .meets)) in
       let file = encode (A .g) (W .ours) in
-      let w = W .writes (subst (λ (i : List Entry). length (encode (A .g) i) ≤ length out) (W .alone (L .ours) (L .best)) (L .enough)) in
+      let w = W .writes (subst (λ (i : List Entry). length (encode (A .g) i) ≤ length out) (W .unique (L .ours) (L .best)) (L .enough)) in
       subst (λ (o : Outcome). checking f p a b (take (o .answer .value) (o .buffer)) ≡ success 0) (sym w)
       (subst (λ (t : List ℕ). checking f p a b t ≡ success 0) (sym (take-at file (drop (length file) out) (length file) refl))
       (meeting file (record { encodes = record { what = W .ours; is-instance = W .best .is-instance; is-file = refl }; meets = W .best .meets })))

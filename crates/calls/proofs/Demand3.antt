@@ -19,9 +19,9 @@ use Rattle.model.proofs.Ranks.{better-strict}
 use Rattle.model.proofs.Right.{right-in-force, best-unique}
 use Rattle.calls.specs.Calls.{given, reconciling}
 use Rattle.calls.proofs.Answers.{RefusesWhen, Writes, placed-fits, placed-short, placed-0, placed-14, placed-not-13}
-use Rattle.calls.proofs.Accepted.{Accepted, reconciling-is, sound-schema}
+use Rattle.calls.proofs.Accepted.{InputsAccepted, reconciling-is, sound-schema}
 
-module _ (f p : List ℕ) (a b : ℕ) (A : Accepted f p a b) where
+module _ (f p : List ℕ) (a b : ℕ) (A : InputsAccepted f p a b) where
   -- 'no rival's instance meets every policy in force'
   abbrev pub NoRival : Type 0
   NoRival = (j : List Entry) → IsInstance (A .g) j → MeetsInForce a b (A .g) (A .ps) j → ⊥
@@ -48,7 +48,7 @@ module _ (f p : List ℕ) (a b : ℕ) (A : Accepted f p a b) where
     pub ours : List Entry
     pub best : IsOurs ours
     -- 'these three alone fix the instance to be written'
-    pub alone : (i : List Entry) → IsOurs i → i ≡ ours
+    pub unique : (i : List Entry) → IsOurs i → i ≡ ours
     pub writes : length (encode (A .g) ours) ≤ length out → Writes (encode (A .g) ours) out o
 
   -- of the outcome of the call with this buffer
@@ -62,7 +62,7 @@ module _ (f p : List ℕ) (a b : ℕ) (A : Accepted f p a b) where
 
 -- ---- the proof
 
-module _ (f p : List ℕ) (a b : ℕ) (h : Bytes f) (A : Accepted f p a b) (out : List ℕ) where
+module _ (f p : List ℕ) (a b : ℕ) (h : Bytes f) (A : InputsAccepted f p a b) (out : List ℕ) where
   right : Right (A .g) (MeetsInForce a b (A .g) (A .ps)) (better (A .g) (forced a b (A .ps))) (reconciled (A .g) (forced a b (A .ps)))
   right = right-in-force (A .g) (sound-schema A h) (A .ps) a b
 
@@ -81,8 +81,8 @@ module _ (f p : List ℕ) (a b : ℕ) (h : Bytes f) (A : Accepted f p a b) (out 
     ours : IsOurs f p a b A i
     ours = right .given i e
 
-    alone : (j : List Entry) → IsOurs f p a b A j → j ≡ i
-    alone j w =
+    unique : (j : List Entry) → IsOurs f p a b A j → j ≡ i
+    unique j w =
         best-unique (A .g) (sound-schema A h) (MeetsInForce a b (A .g) (A .ps)) (better (A .g) (forced a b (A .ps))) (better-strict (A .g) (forced a b (A .ps))) j i w ours
 
     some-given : Demand3 f p a b A out (given (A .g) out (some i))
@@ -90,11 +90,11 @@ module _ (f p : List ℕ) (a b : ℕ) (h : Bytes f) (A : Accepted f p a b) (out 
     some-given =
         record {
           refuses = record { when = λ n. absurd (n i (ours .is-instance) (ours .meets)); only = λ n. absurd (placed-not-13 (encode (A .g) i) out n) };
-          otherwise = λ n. record { ours = i; best = ours; alone = alone; writes = placed-fits (encode (A .g) i) out };
+          otherwise = λ n. record { ours = i; best = ours; unique = unique; writes = placed-fits (encode (A .g) i) out };
           answers-0 = λ n. record { ours = i; best = ours; enough = placed-0 (encode (A .g) i) out n };
           short =
               record {
-                when = λ S. placed-short (encode (A .g) i) out (subst (λ (j : List Entry). length out < length (encode (A .g) j)) (alone (S .ours) (S .best)) (S .shorter));
+                when = λ S. placed-short (encode (A .g) i) out (subst (λ (j : List Entry). length out < length (encode (A .g) j)) (unique (S .ours) (S .best)) (S .shorter));
                 only = λ n. record { ours = i; best = ours; shorter = placed-14 (encode (A .g) i) out n };
               };
         }
