@@ -1,23 +1,24 @@
--- 'Where a number arises': breaches of each row, from bytes to the answer; 13 and 14 are among the cases.
+-- 'Where a number arises': breaches of each row and what is just within it, from bytes to the answer; the reconciler's 13 and 14 are cases.
 -- Rests on computing the definitions.
 use mathlib.Core.Path.{_≡_, refl}
 use mathlib.Core.List.{List, [], _∷_, _++_}
 use Prim.Native.Nat.{ℕ}
 use Rattle.fields.specs.Answers.{judged}
+use Rattle.fields.specs.Outcomes.{placed}
 use Rattle.fields.specs.Reading.{part, be, whole, field, mark, many, ended}
 use Rattle.fields.specs.Writing.{spell}
 use Rattle.numbers.specs.Bits.{bit}
 use Rattle.schema.specs.Schema.{successors, links, number, listed, variable, variables, variablesOf, node, nodes, body, schema}
 use Rattle.policies.specs.Pass.{pass, inForce, forced}
 use Rattle.policies.specs.Policies.{rankCount, ranks, condition, conditions, ruleOf, rule, rules, head, policy, onward, policiesFrom, policies, ruleFor, rankOf, conditionsOf}
-use Rattle.instances.specs.File.{reached, due, noneBelow, lowestDue, valueWidth, valueOf, value, values, entryOf, entry, entries, instance, encodeValue, encodeValues, encodeEntry}
+use Rattle.instances.specs.File.{reached, due, noneBelow, lowestDue, valueWidth, valueOf, value, values, entryOf, entry, entries, instance, encodeValue, encodeValues, encodeEntry, encodeEntries, encode}
 use Rattle.instances.specs.Instance.{chooses, reaches, rightChoice, inDomain, has}
 use Rattle.model.specs.Comparing.{forbiddenValue, forbiddenEntry, forbiddenFrom, forbidden}
 use Rattle.model.specs.Satisfaction.{columnOf, rank, conditionAt, admits, meets, allowed, admitted, choiceMeets}
 use Rattle.lines.proofs.ReadBack.{halfOf, bytesOf}
 use Rattle.lines.proofs.Texts.{codes, lowered, bytes}
 use Rattle.calls.specs.Inputs.{withSchema, withPolicies, withPass, withInForce}
-use Rattle.calls.specs.Calls.{permitted, checkingInForce, checking, comparingInForce, comparing}
+use Rattle.calls.specs.Calls.{permitted, checkingInForce, checking, comparingInForce, comparing, copying}
 use Rattle.calls.proofs.Cases.{example-schema, example-policies}
 
 -- four policies without a PN, and sixteen
@@ -78,11 +79,38 @@ pub record Rows : Type 0 where
   -- checker, last: '18 first choice or value field that a policy in force forbids; file 4'
   pub choice-forbidden : checking example-schema (bytes "50480064006401 504E00FF00") 100 100 (bytes "494802 494E0001 494E01FF00000001") ≡ record { number = 18; file = 4; offset = 6; value = 0 }
   pub value-forbidden : checking example-schema example-policies 101 101 (bytes "494802 494E0001 494E01FF00000001") ≡ record { number = 18; file = 4; offset = 11; value = 0 }
+  -- what is just within: the next field is asked for, or nothing is refused
+  pub count-64 : checking (bytes "534840") [] 1 1 [] ≡ record { number = 2; file = 1; offset = 3; value = 0 }
+  pub c-8 : checking (bytes "534809 534E0108") [] 1 1 [] ≡ record { number = 2; file = 1; offset = 7; value = 0 }
+  pub of-last-node : checking (bytes "534802 534E010101") [] 1 1 [] ≡ record { number = 2; file = 1; offset = 8; value = 0 }
+  pub v-4 : checking (bytes "534801 534E010004") [] 1 1 [] ≡ record { number = 2; file = 1; offset = 8; value = 0 }
+  pub hi-of-lo : checking (bytes "534801 534E01000100 FFFFFFFF FFFFFFFF") [] 1 1 (bytes "494801 494E00FF FFFFFFFF") ≡ record { number = 0; file = 0; offset = 0; value = 0 }
+  pub size-1 : checking (bytes "534801 534E0100010101") [] 1 1 (bytes "494801 494E00FF00") ≡ record { number = 0; file = 0; offset = 0; value = 0 }
+  pub size-32 : checking (bytes "534801 534E0100010120") (bytes "50480001000101 504E00FFFFFFFF") 1 1 (bytes "494801 494E00FF1F") ≡ record { number = 0; file = 0; offset = 0; value = 0 }
+  pub sixteenth : checking example-schema sixteen-policies 1 1 (bytes "494802 494E0002 494E02FF") ≡ record { number = 0; file = 0; offset = 0; value = 0 }
+  pub last-days : checking example-schema example-policies 65535 65535 (bytes "494802 494E0001 494E01FF0000000A") ≡ record { number = 0; file = 0; offset = 0; value = 0 }
+  pub bounds-met : checking example-schema example-policies 101 101 (bytes "494802 494E0001 494E01FF00000008") ≡ record { number = 0; file = 0; offset = 0; value = 0 }
+  pub rank-254 : checking example-schema (bytes "50480064006401 504E00FE00") 100 100 (bytes "494802 494E0001 494E01FF00000001") ≡ record { number = 0; file = 0; offset = 0; value = 0 }
+  -- 'policies have no count': a stray byte is a head's
+  pub stray-byte : checking example-schema (example-policies ++ bytes "50") 1 1 [] ≡ record { number = 2; file = 2; offset = 35; value = 0 }
+  pub stray-bytes : checking example-schema (example-policies ++ bytes "504E") 1 1 [] ≡ record { number = 1; file = 2; offset = 35; value = 0 }
+  -- 'kind 0 has no ranks', nor has a leaf
+  pub no-ranks : checking (bytes "534802 534E00010100 534E010000") (bytes "50480001000102 504E00 504E01") 1 1 (bytes "494802 494E00FF 494E01FF") ≡ record { number = 0; file = 0; offset = 0; value = 0 }
   -- 'files: 4 and 5 instances'
   pub second-file : comparing example-schema [] 1 1 (bytes "494802 494E0002 494E02FF") (bytes "49") ≡ record { number = 2; file = 5; offset = 0; value = 0 }
+  -- 'a copying call takes schema and instance (file 4) and writes the instance it read, 14 last'
+  pub copied :
+      copying example-schema (bytes "494802 494E0002 494E02FF") (bytes "E0E1E2E3E4E5E6E7 E8E9EAEB")
+      ≡ record { answer = record { number = 0; file = 0; offset = 0; value = 11 }; buffer = bytes "494802 494E0002 494E02FF EB" }
+  pub copy-refused :
+      copying example-schema (bytes "494802 494E0003") (bytes "E0E1")
+      ≡ record { answer = record { number = 16; file = 4; offset = 6; value = 0 }; buffer = bytes "E0E1" }
+  pub copy-short :
+      copying example-schema (bytes "494802 494E0002 494E02FF") (bytes "E0E1")
+      ≡ record { answer = record { number = 14; file = 0; offset = 0; value = 0 }; buffer = bytes "E0E1" }
 
 pub rows : Rows
-unfolding example-schema example-policies four-empty sixteen-policies judged spell part be whole field mark many ended bit successors links number listed variable variables variablesOf node nodes body schema pass inForce forced rankCount ranks condition conditions ruleOf rule rules head policy onward policiesFrom policies ruleFor rankOf conditionsOf reached due noneBelow lowestDue valueWidth valueOf value values entryOf entry entries instance encodeValue encodeValues encodeEntry chooses reaches rightChoice inDomain has forbiddenValue forbiddenEntry forbiddenFrom forbidden columnOf rank conditionAt admits meets allowed admitted choiceMeets halfOf bytesOf codes lowered bytes withSchema withPolicies withPass withInForce permitted checkingInForce checking comparingInForce comparing
+unfolding example-schema example-policies four-empty sixteen-policies judged spell part be whole field mark many ended bit successors links number listed variable variables variablesOf node nodes body schema pass inForce forced rankCount ranks condition conditions ruleOf rule rules head policy onward policiesFrom policies ruleFor rankOf conditionsOf reached due noneBelow lowestDue valueWidth valueOf value values entryOf entry entries instance encodeValue encodeValues encodeEntry chooses reaches rightChoice inDomain has forbiddenValue forbiddenEntry forbiddenFrom forbidden columnOf rank conditionAt admits meets allowed admitted choiceMeets halfOf bytesOf codes lowered bytes withSchema withPolicies withPass withInForce permitted checkingInForce checking comparingInForce comparing copying placed encodeEntries encode
 rows =
     record {
       wrong-letters = refl;
@@ -118,5 +146,22 @@ rows =
       value-of-size = refl;
       choice-forbidden = refl;
       value-forbidden = refl;
+      count-64 = refl;
+      c-8 = refl;
+      of-last-node = refl;
+      v-4 = refl;
+      hi-of-lo = refl;
+      size-1 = refl;
+      size-32 = refl;
+      sixteenth = refl;
+      last-days = refl;
+      bounds-met = refl;
+      rank-254 = refl;
+      stray-byte = refl;
+      stray-bytes = refl;
+      no-ranks = refl;
       second-file = refl;
+      copied = refl;
+      copy-refused = refl;
+      copy-short = refl;
     }
