@@ -28,7 +28,7 @@ use Rattle.calls.specs.Inputs.{withSchema, withPolicies, withPass, withI
 use Rattle.calls.specs.Calls.{given, reconciling, permitted, checkingInForce, checking, comparingInForce, comparing}
 use Rattle.calls.proofs.Answers.{Placed, fits, short, placed-is}
 
--- 'schema, policies and pass are accepted if checking them gives no number with file 1, 2 or 3'
+-- schema, policies and pass are read without a breach; that the calls' answers tell so is `acceptance`, below
 pub record InputsAccepted (f p : List ℕ) (a b : ℕ) : Type 0 where
   pub g : List Node
   pub ps : List Policy
