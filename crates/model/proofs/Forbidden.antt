@@ -177,9 +177,9 @@ module _ (g : List Node) (ps : List Policy) where
   own-found : (e : Entry) (p : ℕ) → Finds (Own e p) (forbiddenEntry g ps e p)
   unfolding forbiddenEntry
   own-found e p =
-      subst (Finds (Own e p)) (sym (or-next (choiceMeets g ps e) (p + 3) (forbiddenValue ps (e .node) 0 (nodeAt g (e .node) .variables) (e .values) (p + 4))))
-      (finds-next (own-split e p) (finds-here (p + 3) (choiceMeets g ps e) (choice-meets e) (choice-fails e))
-      (values-found ps (e .node) 0 (nodeAt g (e .node) .variables) (e .values) (p + 4)))
+      let c = finds-here (p + 3) (choiceMeets g ps e) (choice-meets e) (choice-fails e) in
+      let v = values-found ps (e .node) 0 (nodeAt g (e .node) .variables) (e .values) (p + 4) in
+      subst (Finds (Own e p)) (sym (or-next (choiceMeets g ps e) (p + 3) _)) (finds-next (own-split e p) c v)
 
   entries-split : (e : Entry) (i : List Entry) (p : ℕ) → Either (ForbiddenField g ps (e ∷ i) p) (Own e p) (ForbiddenField g ps i (p + length (encodeEntry g e)))
   entries-split e i p =
