@@ -7,3 +7,4 @@ pub mod Demand2
 pub mod ByCall
 pub mod Cases
 pub mod Rows
+pub mod Larger

@@ -31,6 +31,7 @@ sixteen-policies = four-empty ++ four-empty ++ four-empty ++ four-empty
 pub record Rows : Type 0 where
   -- mark: '1 wrong letters'
   pub wrong-letters : checking (bytes "5358") [] 1 1 [] ≡ record { number = 1; file = 1; offset = 0; value = 0 }
+  pub lower-letters : checking (bytes "5248") [] 1 1 [] ≡ record { number = 1; file = 1; offset = 0; value = 0 }
   -- each field: '2 bytes end before it is complete'
   pub incomplete : checking example-schema (bytes "50480064") 1 1 [] ≡ record { number = 2; file = 2; offset = 4; value = 0 }
   -- SH count: '3 zero or above 64'
@@ -114,6 +115,7 @@ unfolding example-schema example-policies four-empty sixteen-policies judged spe
 rows =
     record {
       wrong-letters = refl;
+      lower-letters = refl;
       incomplete = refl;
       count-0 = refl;
       count-65 = refl;

@@ -144,9 +144,24 @@ const SHARED: &str = "534804 534E0002010200 534E0102020300 534E010000 534E010000
 const TWO_CHOICES: &str =
     "534805 534E0002010200 534E0102030400 534E0102030400 534E010000 534E010000";
 
+/// Node 0 all {1,2,4}, with a number -10..10 and a listed variable of size 5; node 1 one {3,5,6,7},
+/// with one of size 3; node 2 one {5}; node 4 a leaf with four variables, 0..100, size 8, -5..5 and
+/// size 32; node 6 a leaf with one of size 2; nodes 3, 5 and 7 leaves.
+const LARGER: &str = "534808 534E0003010204 02 00FFFFFFF60000000A 0105 \
+    534E010403050607 01 0103 534E01010500 534E010000 \
+    534E0100 04 000000000000000064 0108 00FFFFFFFB00000005 0120 \
+    534E010000 534E0100010102 534E010000";
+const DAY_10: &str = "5048000A000A02 504E00 FFFFFFF90000000A 0000001C 504E01 04040202 00000006";
+const DAY_9: &str = "50480009000901 504E01 0000FFFF 00000007";
+const DAYS_5_TO_20: &str = "50480005001402 504E01 01000703 00000005 \
+    504E04 0000001400000032 000000F0 FFFFFFFD00000009 80010000";
+const DAYS_10_TO_11: &str = "5048000A000B02 \
+    504E04 0000001E00000028 00000060 FFFFFF80FFFFFFFF C0000000 504E07";
+
 /// All cases.
 pub fn all() -> Vec<Case> {
-    let definitions = [worked(), definitions(), order()].concat();
+    let definitions =
+        [worked(), definitions(), order(), larger(), larger_rows(), larger_order()].concat();
     let rows = [schema_rows(), policy_rows(), pass_rows(), instance_rows(), last_rows()].concat();
     [definitions, rows].concat()
 }
@@ -246,12 +261,135 @@ fn order() -> Vec<Case> {
     ]
 }
 
+/// An instance of `LARGER` in which node 1 chooses `choice`, by the values of nodes 0, 1 and 4.
+fn choosing(choice: u8, values: [&str; 3]) -> String {
+    let (entries, three, last) = match choice {
+        3 => (6, "494e03ff", ""),
+        5 => (5, "", ""),
+        6 => (6, "", "494e06ff01"),
+        _ => (6, "", "494e07ff"),
+    };
+    let [root, one, four] = values;
+    format!(
+        "49480{entries} 494e00ff{root} 494e010{choice}{one} 494e0205 {three} \
+         494e04ff{four} 494e05ff {last}"
+    )
+}
+
+/// The least values of nodes 0, 1 and 4 of `LARGER` on day 10.
+const LEAST: [&str; 3] = ["fffffff9 02", "02", "0000001e 05 fffffffd 1f"];
+
+/// Nodes with several successors and variables, under several policies.
+fn larger() -> Vec<Case> {
+    let policies = [DAY_10, DAY_9, DAYS_5_TO_20, DAYS_10_TO_11].concat();
+    let on = |call, name, pass| Case::on(call, name, LARGER, &policies, pass);
+    let reconciled =
+        |name, pass, instance: String| on(Call::Reconcile, name, pass).writes(&instance);
+    let checked = |name, pass, choice, values| {
+        on(Call::Check, name, pass).instance(&choosing(choice, values))
+    };
+    let [root, one, four] = LEAST;
+    let of_4 = |name, four| checked(name, (10, 10), 7, [root, one, four]);
+    let read = |name, policies: &str, number, offset| {
+        let policies = [DAY_10, policies].concat();
+        Case::on(Call::Check, name, LARGER, &policies, (10, 10)).refuses(number, 2, offset)
+    };
+    let on_day_9 = ["fffffff6 00", "00", "00000014 04 fffffffd 10"];
+    let copied = choosing(6, ["00000003 01", one, "00000004 05 fffffffb 07"]);
+    vec![
+        reconciled("the second policy decides", (10, 10), choosing(7, LEAST)),
+        reconciled("no PN of the root", (9, 9), choosing(5, on_day_9)),
+        reconciled("the third policy decides", (9, 10), choosing(5, LEAST)),
+        on(Call::Copy, "every value copied", (0, 0)).instance(&copied).room(45).writes(&copied),
+        checked("what is written is accepted", (10, 10), 7, LEAST),
+        checked("highest values", (10, 10), 6, ["0000000a 04", one, "00000028 06 ffffffff 1f"]),
+        checked("18 at the root's first value", (10, 10), 7, ["fffffff8 02", one, four])
+            .refuses(18, 4, 7),
+        checked("18 at the root's second value", (10, 10), 7, ["fffffff9 01", one, four])
+            .refuses(18, 4, 11),
+        checked("18 where there is a choice too", (10, 10), 7, [root, "01", four])
+            .refuses(18, 4, 16),
+        of_4("18 at the first of four", "00000029 05 fffffffd 1f").refuses(18, 4, 25),
+        of_4("18 at the second of four", "0000001e 07 fffffffd 1f").refuses(18, 4, 29),
+        of_4("18 at the third of four", "0000001e 05 00000000 1f").refuses(18, 4, 30),
+        of_4("18 at the fourth of four", "0000001e 05 fffffffd 1e").refuses(18, 4, 34),
+        of_4("18 at the second and fourth", "0000001e 07 fffffffd 1e").refuses(18, 4, 29),
+        checked("18 at a third successor", (9, 9), 6, ["fffffff6 00", one, four])
+            .refuses(18, 4, 15),
+        checked("18 at a choice before its value", (9, 10), 7, [root, "01", four])
+            .refuses(18, 4, 15),
+        of_4("17 at the first of four", "00000065 05 fffffffd 1f").refuses(17, 4, 25),
+        of_4("17 at the second of four", "0000001e 08 fffffffd 1f").refuses(17, 4, 29),
+        of_4("17 at the third of four", "0000001e 05 fffffffa 1f").refuses(17, 4, 30),
+        of_4("17 at the fourth of four", "0000001e 05 fffffffd 20").refuses(17, 4, 34),
+        read("10 in a later PN", "50480009000902 504E01 0000FFFF 00000007 504E01", 10, 53),
+        read(
+            "11 in a later PN",
+            "50480009000902 504E00 FFFFFFF90000000A 0000001C 504E04 0000001400000032 00000100",
+            11,
+            66,
+        ),
+        read(
+            "2 in a later PN",
+            "50480009000902 504E01 0000FFFF 00000007 \
+             504E04 0000001400000032 000000F0 FFFFFFFD 000000",
+            2,
+            70,
+        ),
+    ]
+}
+
+fn larger_rows() -> Vec<Case> {
+    let of = |name, instance, number, offset| {
+        let case = Case::on(Call::Check, name, LARGER, "", (10, 10)).instance(instance);
+        case.refuses(number, 4, offset)
+    };
+    let schema = |name, schema, number, offset| {
+        Case::on(Call::Check, name, schema, "", (10, 10)).refuses(number, 1, offset)
+    };
+    vec![
+        of("16 between two successors", "494806 494e00fffffffff902 494e0104", 16, 15),
+        of("16 at kind 0", "494806 494e0001", 16, 6),
+        of("16 with one successor", "494806 494e00fffffffff902 494e010702 494e02ff", 16, 20),
+        of("15 not reached", "494806 494e00fffffffff902 494e010702 494e0205 494e03", 15, 23),
+        of("15 a third left out", "494805 494e00fffffffff902 494e010702 494e0205 494e05", 15, 23),
+        schema("5 at a third successor", "534808 534E0003010202", 5, 9),
+        schema("5 at a later node's own number", "534803 534E01010100 534E010101", 5, 13),
+        schema(
+            "6 at a fourth variable",
+            "534802 534E00010100 534E0100 04 0108 000000000000000064 0120 0121",
+            6,
+            28,
+        ),
+    ]
+}
+
+fn larger_order() -> Vec<Case> {
+    let all = [DAY_10, DAY_9, DAYS_5_TO_20, DAYS_10_TO_11].concat();
+    let compared = |name, policies: &str, pass, first: String, second| {
+        let case = Case::on(Call::Compare, name, LARGER, policies, pass);
+        case.instance(&first).second(&choosing(second, LEAST))
+    };
+    let least = |choice| choosing(choice, LEAST);
+    let [_, one, four] = LEAST;
+    let higher = choosing(7, ["0000000a 04", one, four]);
+    vec![
+        compared("a later policy", &all, (10, 10), higher.clone(), 6).gives(FIRST_BETTER),
+        compared("a third successor", &all, (10, 10), least(3), 6).gives(SECOND_BETTER),
+        compared("other values", &all, (10, 10), higher, 7).gives(ALIKE),
+        compared("no policy", "", (10, 10), least(6), 3).gives(SECOND_BETTER),
+        compared("two 255", &all, (9, 9), least(6), 7).gives(SECOND_BETTER),
+        compared("one 255", &[DAY_9, DAY_10].concat(), (9, 10), least(7), 3).gives(SECOND_BETTER),
+    ]
+}
+
 fn schema_rows() -> Vec<Case> {
     let row = |name, schema, number, offset| {
         Call::ALL.map(|call| Case::on(call, name, schema, "", (0, 0)).refuses(number, 1, offset))
     };
     [
         row("SH mark", "534903 534E", 1, 0),
+        row("SH mark with a lower letter", "524803 534E", 1, 0),
         row("half a mark", "50", 2, 0),
         row("SH count missing", "5348", 2, 2),
         row("SH count zero", "534800", 3, 2),
