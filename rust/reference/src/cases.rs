@@ -158,12 +158,15 @@ const DAYS_5_TO_20: &str = "50480005001402 504E01 01000703 00000005 \
 const DAYS_10_TO_11: &str = "5048000A000B02 \
     504E04 0000001E00000028 00000060 FFFFFF80FFFFFFFF C0000000 504E07";
 
+/// A leaf, node 1, whose fourth variable has size 33.
+const FOURTH_VARIABLE: &str = "534802 534E00010100 534E0100 04 0108 000000000000000064 0120 0121";
+
 /// All cases.
 pub fn all() -> Vec<Case> {
-    let definitions =
-        [worked(), definitions(), order(), larger(), larger_rows(), larger_order()].concat();
+    let definitions = [worked(), definitions(), order()].concat();
+    let larger = [larger(), larger_values(), larger_rows(), larger_order()].concat();
     let rows = [schema_rows(), policy_rows(), pass_rows(), instance_rows(), last_rows()].concat();
-    [definitions, rows].concat()
+    [definitions, larger, rows].concat()
 }
 
 fn reconciled(name: &'static str, policies: &str, pass: (u16, u16)) -> Case {
@@ -279,107 +282,116 @@ fn choosing(choice: u8, values: [&str; 3]) -> String {
 /// The least values of nodes 0, 1 and 4 of `LARGER` on day 10.
 const LEAST: [&str; 3] = ["fffffff9 02", "02", "0000001e 05 fffffffd 1f"];
 
+/// `call` on `LARGER` under its four policies.
+fn on_larger(call: Call, name: &'static str, pass: (u16, u16)) -> Case {
+    let policies = [DAY_10, DAY_9, DAYS_5_TO_20, DAYS_10_TO_11].concat();
+    Case::on(call, name, LARGER, &policies, pass)
+}
+
 /// Nodes with several successors and variables, under several policies.
 fn larger() -> Vec<Case> {
-    let policies = [DAY_10, DAY_9, DAYS_5_TO_20, DAYS_10_TO_11].concat();
-    let on = |call, name, pass| Case::on(call, name, LARGER, &policies, pass);
-    let reconciled =
-        |name, pass, instance: String| on(Call::Reconcile, name, pass).writes(&instance);
-    let checked = |name, pass, choice, values| {
-        on(Call::Check, name, pass).instance(&choosing(choice, values))
+    let reconciled = |name, pass, room, instance: String| {
+        on_larger(Call::Reconcile, name, pass).room(room).writes(&instance)
     };
-    let [root, one, four] = LEAST;
-    let of_4 = |name, four| checked(name, (10, 10), 7, [root, one, four]);
-    let read = |name, policies: &str, number, offset| {
-        let policies = [DAY_10, policies].concat();
-        Case::on(Call::Check, name, LARGER, &policies, (10, 10)).refuses(number, 2, offset)
+    let checked = |name, choice, values| {
+        on_larger(Call::Check, name, (10, 10)).instance(&choosing(choice, values))
     };
+    let [_, one, _] = LEAST;
     let on_day_9 = ["fffffff6 00", "00", "00000014 04 fffffffd 10"];
     let copied = choosing(6, ["00000003 01", one, "00000004 05 fffffffb 07"]);
     vec![
-        reconciled("the second policy decides", (10, 10), choosing(7, LEAST)),
-        reconciled("no PN of the root", (9, 9), choosing(5, on_day_9)),
-        reconciled("the third policy decides", (9, 10), choosing(5, LEAST)),
-        on(Call::Copy, "every value copied", (0, 0)).instance(&copied).room(45).writes(&copied),
-        checked("what is written is accepted", (10, 10), 7, LEAST),
-        checked("highest values", (10, 10), 6, ["0000000a 04", one, "00000028 06 ffffffff 1f"]),
-        checked("18 at the root's first value", (10, 10), 7, ["fffffff8 02", one, four])
-            .refuses(18, 4, 7),
-        checked("18 at the root's second value", (10, 10), 7, ["fffffff9 01", one, four])
-            .refuses(18, 4, 11),
-        checked("18 where there is a choice too", (10, 10), 7, [root, "01", four])
-            .refuses(18, 4, 16),
-        of_4("18 at the first of four", "00000029 05 fffffffd 1f").refuses(18, 4, 25),
-        of_4("18 at the second of four", "0000001e 07 fffffffd 1f").refuses(18, 4, 29),
-        of_4("18 at the third of four", "0000001e 05 00000000 1f").refuses(18, 4, 30),
-        of_4("18 at the fourth of four", "0000001e 05 fffffffd 1e").refuses(18, 4, 34),
-        of_4("18 at the second and fourth", "0000001e 07 fffffffd 1e").refuses(18, 4, 29),
-        checked("18 at a third successor", (9, 9), 6, ["fffffff6 00", one, four])
-            .refuses(18, 4, 15),
-        checked("18 at a choice before its value", (9, 10), 7, [root, "01", four])
-            .refuses(18, 4, 15),
-        of_4("17 at the first of four", "00000065 05 fffffffd 1f").refuses(17, 4, 25),
-        of_4("17 at the second of four", "0000001e 08 fffffffd 1f").refuses(17, 4, 29),
-        of_4("17 at the third of four", "0000001e 05 fffffffa 1f").refuses(17, 4, 30),
-        of_4("17 at the fourth of four", "0000001e 05 fffffffd 20").refuses(17, 4, 34),
-        read("10 in a later PN", "50480009000902 504E01 0000FFFF 00000007 504E01", 10, 53),
-        read(
-            "11 in a later PN",
-            "50480009000902 504E00 FFFFFFF90000000A 0000001C 504E04 0000001400000032 00000100",
-            11,
-            66,
-        ),
-        read(
-            "2 in a later PN",
-            "50480009000902 504E01 0000FFFF 00000007 \
-             504E04 0000001400000032 000000F0 FFFFFFFD 000000",
-            2,
-            70,
-        ),
+        reconciled("the second policy decides", (10, 10), 45, choosing(7, LEAST)),
+        reconciled("no PN of the root", (9, 9), 39, choosing(5, on_day_9)),
+        reconciled("the third policy decides", (9, 10), 40, choosing(5, LEAST)),
+        checked("what is written is accepted", 7, LEAST),
+        checked("highest values", 6, ["0000000a 04", one, "00000028 06 ffffffff 1f"]),
+        Case::on(Call::Copy, "every value copied", LARGER, "", (0, 0))
+            .instance(&copied)
+            .room(45)
+            .writes(&copied),
     ]
 }
 
-fn larger_rows() -> Vec<Case> {
-    let of = |name, instance, number, offset| {
-        let case = Case::on(Call::Check, name, LARGER, "", (10, 10)).instance(instance);
+/// A choice or value of `LARGER` that is forbidden, or a value outside its domain.
+fn larger_values() -> Vec<Case> {
+    let refused = |name, pass, choice, values, number, offset| {
+        let case = on_larger(Call::Check, name, pass).instance(&choosing(choice, values));
         case.refuses(number, 4, offset)
+    };
+    let [root, one, four] = LEAST;
+    let of_0 = |name, root, offset| refused(name, (10, 10), 7, [root, one, four], 18, offset);
+    let of_4 =
+        |name, four, number, offset| refused(name, (10, 10), 7, [root, one, four], number, offset);
+    let on_both = [root, "01", "0000001e 07 fffffffd 1f"];
+    vec![
+        of_0("18 at the root's first value", "fffffff8 02", 7),
+        of_0("18 at the root's second value", "fffffff9 01", 11),
+        refused("18 where there is a choice too", (10, 10), 7, [root, "01", four], 18, 16),
+        of_4("18 at the first of four", "00000029 05 fffffffd 1f", 18, 25),
+        of_4("18 at the second of four", "0000001e 07 fffffffd 1f", 18, 29),
+        of_4("18 at the third of four", "0000001e 05 00000000 1f", 18, 30),
+        of_4("18 at the fourth of four", "0000001e 05 fffffffd 1e", 18, 34),
+        of_4("18 at the second and fourth", "0000001e 07 fffffffd 1e", 18, 29),
+        refused("18 at a third successor", (9, 9), 6, ["fffffff6 00", one, four], 18, 15),
+        refused("18 at a fourth successor", (9, 10), 7, on_both, 18, 15),
+        of_4("17 at the first of four", "00000065 05 fffffffd 1f", 17, 25),
+        of_4("17 at the second of four", "0000001e 08 fffffffd 1f", 17, 29),
+        of_4("17 at the third of four", "0000001e 05 fffffffa 1f", 17, 30),
+        of_4("17 at the fourth of four", "0000001e 05 fffffffd 20", 17, 34),
+    ]
+}
+
+/// Breaches in what stands second, third or last.
+fn larger_rows() -> Vec<Case> {
+    let of = |name, policies: &str, instance: &str, (number, file, offset)| {
+        let case = Case::on(Call::Check, name, LARGER, policies, (10, 10)).instance(instance);
+        case.refuses(number, file, offset)
+    };
+    let read = |name, later: &str, number, offset| {
+        of(name, &[DAY_10, "50480009000902 ", later].concat(), "", (number, 2, offset))
     };
     let schema = |name, schema, number, offset| {
         Case::on(Call::Check, name, schema, "", (10, 10)).refuses(number, 1, offset)
     };
+    let root = "494e00fffffffff902";
+    let entry = |name, entries: &str, number, offset| {
+        of(name, "", &["494806", root, entries].concat(), (number, 4, offset))
+    };
+    let left_out = ["494805", root, "494e010702 494e0205 494e05ff"].concat();
+    let (mask, hi) = ("504E04 0000001400000032 00000100", "504E04 0000001400000032 000000F0");
+    let (node_0, node_1) = ("504E00 FFFFFFF90000000A 0000001C ", "504E01 0000FFFF 00000007 ");
     vec![
-        of("16 between two successors", "494806 494e00fffffffff902 494e0104", 16, 15),
-        of("16 at kind 0", "494806 494e0001", 16, 6),
-        of("16 with one successor", "494806 494e00fffffffff902 494e010702 494e02ff", 16, 20),
-        of("15 not reached", "494806 494e00fffffffff902 494e010702 494e0205 494e03", 15, 23),
-        of("15 a third left out", "494805 494e00fffffffff902 494e010702 494e0205 494e05", 15, 23),
+        entry("16 between two successors", "494e0104", 16, 15),
+        of("16 at kind 0", "", "494806 494e0001", (16, 4, 6)),
+        entry("16 with one successor", "494e010702 494e02ff", 16, 20),
+        entry("15 not reached", "494e010702 494e0205 494e03", 15, 23),
+        of("15 a third left out", "", &left_out, (15, 4, 23)),
+        read("10 in a later PN", &[node_1, "504E01"].concat(), 10, 53),
+        read("11 in a later PN", &[node_0, mask].concat(), 11, 66),
+        read("2 in a later PN", &[node_1, hi, "FFFFFFFD 000000"].concat(), 2, 70),
         schema("5 at a third successor", "534808 534E0003010202", 5, 9),
         schema("5 at a later node's own number", "534803 534E01010100 534E010101", 5, 13),
-        schema(
-            "6 at a fourth variable",
-            "534802 534E00010100 534E0100 04 0108 000000000000000064 0120 0121",
-            6,
-            28,
-        ),
+        schema("6 at a fourth variable", FOURTH_VARIABLE, 6, 28),
     ]
 }
 
+/// The order by ranks of a third successor and of a later policy.
 fn larger_order() -> Vec<Case> {
-    let all = [DAY_10, DAY_9, DAYS_5_TO_20, DAYS_10_TO_11].concat();
-    let compared = |name, policies: &str, pass, first: String, second| {
-        let case = Case::on(Call::Compare, name, LARGER, policies, pass);
-        case.instance(&first).second(&choosing(second, LEAST))
-    };
-    let least = |choice| choosing(choice, LEAST);
+    let compared = |name, pass| on_larger(Call::Compare, name, pass);
+    let under = |name, policies: &str, pass| Case::on(Call::Compare, name, LARGER, policies, pass);
+    let of =
+        |case: Case, first: &str, second| case.instance(first).second(&choosing(second, LEAST));
+    let [three, six, seven] = [3, 6, 7].map(|choice| choosing(choice, LEAST));
     let [_, one, four] = LEAST;
     let higher = choosing(7, ["0000000a 04", one, four]);
+    let forbidden_first = [DAY_9, DAY_10].concat();
     vec![
-        compared("a later policy", &all, (10, 10), higher.clone(), 6).gives(FIRST_BETTER),
-        compared("a third successor", &all, (10, 10), least(3), 6).gives(SECOND_BETTER),
-        compared("other values", &all, (10, 10), higher, 7).gives(ALIKE),
-        compared("no policy", "", (10, 10), least(6), 3).gives(SECOND_BETTER),
-        compared("two 255", &all, (9, 9), least(6), 7).gives(SECOND_BETTER),
-        compared("one 255", &[DAY_9, DAY_10].concat(), (9, 10), least(7), 3).gives(SECOND_BETTER),
+        of(compared("a later policy", (10, 10)), &higher, 6).gives(FIRST_BETTER),
+        of(compared("a third successor", (10, 10)), &three, 6).gives(SECOND_BETTER),
+        of(compared("other values", (10, 10)), &higher, 7).gives(ALIKE),
+        of(under("no policy", "", (10, 10)), &six, 3).gives(SECOND_BETTER),
+        of(compared("two 255", (9, 9)), &six, 7).gives(SECOND_BETTER),
+        of(under("one 255", &forbidden_first, (9, 10)), &seven, 3).gives(SECOND_BETTER),
     ]
 }
 

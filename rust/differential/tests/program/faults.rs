@@ -13,7 +13,7 @@ const EIO: u32 = 5;
 #[test]
 fn short_reads() {
     let (Files { schema, policies }, input) = (largest(), records(DAY, 49));
-    for most in [1, 5, 7, 143, 144, 145, 4_095, 4_096, 4_097, 65_535] {
+    for most in [1, 5, 7, 143, 144, 145, 1_282, 1_283, 1_284, 4_095, 4_096, 4_097, 65_535] {
         let faults = Faults::ShortReads(most);
         Run { faults, ..Run::on(&schema, &policies, &input) }.same();
         Run { faults, ..Run::on(&schema, &policies, &input[..289]) }.same();
@@ -44,7 +44,8 @@ fn a_read_error_in_a_file() {
     }
     let printed = [&[], &policies[..]].map(|policies| passplan(&schema, policies, &input));
     assert_ne!(printed[0], printed[1]);
-    for after in [0, 1, 144, 4_095, 4_096, 4_097, 40_000, policies.len() - 1, policies.len()] {
+    let inside = [0, 1, 144, 1_282, 1_283, 1_284, 4_095, 4_096, 4_097, 40_000];
+    for after in inside.into_iter().chain([policies.len() - 1, policies.len()]) {
         for errno in [EINTR, EIO] {
             let faults = Faults::Error { file: "policies.bin", after, errno };
             Run { faults, ..whole }.prints(&printed[0]);

@@ -8,7 +8,7 @@ use crate::made::{Files, largest, policies_of, records, schema_of};
 use crate::run::{Run, Source};
 
 /// The lengths of the buffers that the program and its libraries have.
-const BUFFERS: [usize; 3] = [144, 4_096, 65_536];
+const BUFFERS: [usize; 4] = [144, 1_283, 4_096, 65_536];
 
 /// One byte less than a length, as many, and one more.
 fn around(length: usize) -> [usize; 3] {
@@ -96,7 +96,7 @@ fn whose_last_byte_decides() {
             [4, 5].map(|size| lines(schema_of(length, size), |files| &mut files.schema));
         assert_ne!(four, five);
     }
-    for length in [144, 4_096, 8_192, 12_288, 16_384, 32_768].into_iter().flat_map(around) {
+    for length in [144, 1_283, 4_096, 8_192, 12_288, 16_384, 32_768].into_iter().flat_map(around) {
         let [least, most] =
             [0, 255].map(|rank| lines(policies_of(length, rank), |files| &mut files.policies));
         assert_ne!(least, most);
@@ -117,7 +117,7 @@ fn spoiled_around_each_page() {
 #[test]
 fn that_come_in_parts() {
     let (Files { schema, policies }, input) = (largest(), records(DAY, 25));
-    for step in [1, 7, 143, 144, 145, 4_095, 4_096, 4_097, 65_535] {
+    for step in [1, 7, 143, 144, 145, 1_282, 1_283, 1_284, 4_095, 4_096, 4_097, 65_535] {
         let whole = Run::on(&schema, &policies, &input);
         Run { schema: Source::Pipe(&schema, step), ..whole }.same();
         let step = step.max(61);
@@ -132,7 +132,7 @@ fn that_come_in_parts() {
 fn that_come_in_parts_and_are_too_long() {
     let (mut files, input) = (largest(), records(DAY, 2));
     files.policies.resize(70_000, b'P');
-    for step in [999, 4_096, 65_536, 65_537] {
+    for step in [999, 1_283, 4_096, 65_536, 65_537] {
         let policies = Source::Pipe(&files.policies, step);
         Run { policies, ..Run::on(&files.schema, &[], &input) }.same();
     }
