@@ -60,6 +60,7 @@ static void untouched(const char *name) { written(name, out, 0); }
 
 #define BYTES(bytes) bytes, sizeof bytes
 #define EMPTY schema, 0
+#define NOTHING NULL, 0
 
 static void reconciling(void) {
     answers("reconcile, day 100",
@@ -155,12 +156,67 @@ static void copying(void) {
     untouched("copy, cut instance: buffer");
 }
 
+/* A null pointer with length 0 is an empty file, or an empty buffer. */
+static void nothing(void) {
+    answers("reconcile, null schema",
+            neulenta_reconcile(NOTHING, BYTES(policies), 100, 100, out, ROOM), 2, 1, 0, 0);
+    untouched("reconcile, null schema: buffer");
+    answers("reconcile, null policies",
+            neulenta_reconcile(BYTES(schema), NOTHING, 0, 0, out, ROOM), 0, 0, 0, 15);
+    written("reconcile, null policies: buffer", BYTES(one));
+    answers("reconcile, null buffer",
+            neulenta_reconcile(BYTES(schema), BYTES(policies), 100, 100, NOTHING), 14, 0, 0, 0);
+    answers("check, null schema",
+            neulenta_check(NOTHING, BYTES(policies), 100, 100, BYTES(one)), 2, 1, 0, 0);
+    answers("check, null policies",
+            neulenta_check(BYTES(schema), NOTHING, 100, 100, BYTES(one)), 0, 0, 0, 0);
+    answers("check, null instance",
+            neulenta_check(BYTES(schema), BYTES(policies), 100, 100, NOTHING), 2, 4, 0, 0);
+    answers("compare, null schema",
+            neulenta_compare(NOTHING, BYTES(policies), 100, 100, BYTES(one), BYTES(two)), 2, 1, 0,
+            0);
+    answers("compare, null policies",
+            neulenta_compare(BYTES(schema), NOTHING, 100, 100, BYTES(one), BYTES(two)), 0, 0, 0,
+            NEULENTA_FIRST_BETTER);
+    answers("compare, null first",
+            neulenta_compare(BYTES(schema), BYTES(policies), 100, 100, NOTHING, BYTES(two)), 2, 4,
+            0, 0);
+    answers("compare, null second",
+            neulenta_compare(BYTES(schema), BYTES(policies), 100, 100, BYTES(one), NOTHING), 2, 5,
+            0, 0);
+    answers("copy, null schema", neulenta_copy(NOTHING, BYTES(two), out, ROOM), 2, 1, 0, 0);
+    untouched("copy, null schema: buffer");
+    answers("copy, null instance", neulenta_copy(BYTES(schema), NOTHING, out, ROOM), 2, 4, 0, 0);
+    untouched("copy, null instance: buffer");
+    answers("copy, null buffer", neulenta_copy(BYTES(schema), BYTES(two), NOTHING), 14, 0, 0, 0);
+}
+
+static void version(void) {
+    expect("version of the header", neulenta_version() == NEULENTA_VERSION);
+    expect("compatible", neulenta_compatible());
+}
+
+/* Each number has a text of its own. */
+static void texts(void) {
+    for (uint32_t number = NEULENTA_SUCCESS; number <= NEULENTA_FORBIDDEN + 1; number++)
+        for (uint32_t other = 0; other < number; other++)
+            if (strcmp(neulenta_text(number), neulenta_text(other)) == 0) {
+                printf("FAILED text: %" PRIu32 " as %" PRIu32 "\n", number, other);
+                failed++;
+            }
+    expect("no text above the last number",
+           strcmp(neulenta_text(NEULENTA_FORBIDDEN + 1), neulenta_text(UINT32_MAX)) == 0);
+}
+
 int main(void) {
     memset(out, OLD, ROOM);
     reconciling();
     checking();
     comparing();
     copying();
+    nothing();
+    version();
+    texts();
     printf("%d passed, %d failed\n", passed, failed);
     return failed != 0;
 }

@@ -5,7 +5,15 @@ ghost use Rattle.calls.specs.Calls.{reconciling, checking, comparing, copying};
 ghost use Rattle.calls.proofs.ByCall.{Reconciles, Checks, Compares, Copies};
 ghost use Rattle.exports.specs.Call.{Called, outcomeOf};
 ghost use Rattle.exports.specs.Exported.{exported, answerOf};
+ghost use Rattle.exports.specs.Version.{version};
 use fields::Answer;
+
+// NEULENTA_VERSION_MAJOR, _MINOR and _PATCH of include/neulenta.h.
+const MAJOR: u32 = 1;
+
+const MINOR: u32 = 0;
+
+const PATCH: u32 = 0;
 
 // neulenta_answer of include/neulenta.h.
 #[repr(C)]
@@ -76,4 +84,12 @@ pub extern "C" fn neulenta_compare(
     ensures { λ r. ⌜ Compares (now (schema .entry)) (now (policies .entry)) a b (now (first .entry)) (now (second .entry)) (answerOf r) ⌝ }
 {
     export(comparison::compare(schema, policies, a, b, first, second))
+}
+
+// What the linked library is, for who compares it with the header: NEULENTA_VERSION there.
+#[no_mangle]
+pub extern "C" fn neulenta_version() -> u32
+    ensures { λ r. ⌜ r ≡ version ⌝ }
+{
+    MAJOR * 65536 + MINOR * 256 + PATCH
 }

@@ -9,6 +9,7 @@ use std::time::{Duration, Instant};
 
 use differential::random::Random;
 use inputs::{Group, Input};
+use neulenta::LONGEST;
 
 /// Rounds of one batch each of both programs.
 const ROUNDS: usize = 501;
@@ -20,7 +21,7 @@ type Reconcile = fn(&Input, &mut [u8]) -> (u32, u64);
 
 fn library(input: &Input, out: &mut [u8]) -> (u32, u64) {
     let (a, b) = input.pass;
-    let answer = neulenta::reconcile(&input.schema, &input.policies, a, b, out);
+    let answer = neulenta::raw::reconcile(&input.schema, &input.policies, a, b, out);
     (answer.number, answer.value)
 }
 
@@ -55,7 +56,7 @@ fn main() {
 /// Only equal work is compared: each input has an instance and both write it.
 fn demand_same(group: &Group) {
     for input in &group.inputs {
-        let [mut out, mut expected] = [[0; 1_283]; 2];
+        let [mut out, mut expected] = [[0; LONGEST]; 2];
         let answers = [library(input, &mut out), reference(input, &mut expected)];
         assert_eq!(answers[0], answers[1], "{}", group.name);
         assert_eq!(answers[0].0, 0, "{}", group.name);
@@ -90,7 +91,7 @@ fn measure(inputs: &[Input]) -> [Figure; 3] {
 
 /// The nanoseconds of a call when all inputs are taken in turn `times` times.
 fn time(program: Reconcile, inputs: &[Input], times: usize) -> f64 {
-    let mut out = [0; 1_283];
+    let mut out = [0; LONGEST];
     let start = Instant::now();
     for _ in 0..times {
         for input in inputs {

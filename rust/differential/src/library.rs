@@ -1,5 +1,6 @@
 //! The static library under the reference's types.
 
+use neulenta::raw;
 use reference::Answer;
 use reference::cases::{Call, Input};
 
@@ -8,19 +9,12 @@ pub const LINKED: &[Call] = &[Call::Copy, Call::Reconcile, Call::Check, Call::Co
 
 /// The library's answer.
 pub fn answer(call: Call, input: &Input, out: &mut [u8]) -> Answer {
+    let Input { schema, policies, pass: (a, b), first, second } = *input;
     let answer = match call {
-        Call::Copy => neulenta::copy(input.schema, input.first, out),
-        Call::Reconcile => {
-            neulenta::reconcile(input.schema, input.policies, input.pass.0, input.pass.1, out)
-        }
-        Call::Check => {
-            let (a, b) = input.pass;
-            neulenta::check(input.schema, input.policies, a, b, input.first)
-        }
-        Call::Compare => {
-            let (a, b) = input.pass;
-            neulenta::compare(input.schema, input.policies, a, b, input.first, input.second)
-        }
+        Call::Copy => raw::copy(schema, first, out),
+        Call::Reconcile => raw::reconcile(schema, policies, a, b, out),
+        Call::Check => raw::check(schema, policies, a, b, first),
+        Call::Compare => raw::compare(schema, policies, a, b, first, second),
     };
     Answer { number: answer.number, file: answer.file, offset: answer.offset, value: answer.value }
 }

@@ -2,6 +2,7 @@
 
 use std::collections::BTreeMap;
 
+use neulenta::LONGEST;
 use reference::Answer;
 use reference::cases::{Call, Input};
 
@@ -11,9 +12,6 @@ use crate::mutate;
 use crate::random::Random;
 use crate::scenario::{Files, Scenario, Which, taken};
 use crate::shapes;
-
-/// The bytes that are enough for any instance.
-const ENOUGH: usize = 1_283;
 
 /// Compares the library with the reference and counts.
 #[derive(Debug)]
@@ -80,7 +78,7 @@ impl Trial {
             let bytes = &files.file(*which).bytes;
             let random = &mut self.random.clone();
             mutate::truncated(random, bytes, bytes.len(), &mut |bytes| {
-                self.same(call, &files.with(*which, bytes), ENOUGH);
+                self.same(call, &files.with(*which, bytes), LONGEST);
             });
         }
     }
@@ -105,8 +103,8 @@ impl Trial {
     /// Compares with a buffer that is enough and, after success, with buffers of exactly the
     /// length, one less, none and more than enough; after a refusal with one of the last two.
     pub fn compare(&mut self, call: Call, input: &Input) {
-        let answer = self.same(call, input, ENOUGH);
-        let longer = ENOUGH + 1 + self.random.below(700);
+        let answer = self.same(call, input, LONGEST);
+        let longer = LONGEST + 1 + self.random.below(700);
         if !matches!(call, Call::Copy | Call::Reconcile) {
             return;
         }
