@@ -168,9 +168,9 @@ function hold_variable(type, node,    v) {
 function hold_values(node, v,    colon, n, list) {
     colon = index(line, ": ")
     n = split(substr(line, colon + 2), list, " ")
-    if (colon < 2) wrong("no name, ': ' and names of values")
+    if (colon < 2) wrong("not 'listed N NAME: V0 V1 ..'")
     else if (n != size[node, v])
-        wrong("names of " n " values: variable " v " of node " node " is " described(node, v) \
+        wrong("names of " n " values, parted by blanks: variable " v " of node " node " is " described(node, v) \
             " in the schema")
     variables[node, v] = substr(line, 1, colon - 1)
     for (; n > 0; n--) values[node, v, n - 1] = list[n]
@@ -281,14 +281,13 @@ function learn_words() {
     meanings[1] = "a record does not begin with its two letters"
     meanings[2] = "the bytes end before a field is complete"
     meanings[3] = "node count 0 or above 64"
-    meanings[4] = "kind above 1, c above 8, or c 0 under kind 0"
-    meanings[5] = "successor not above the one before it, not above its node's own number, or not " \
-        "below the node count"
-    meanings[6] = "v above 4, variable type above 1, hi below lo, or size 0 or above 32"
+    meanings[4] = "kind above 1, or successor count above 8, or 0 under kind 0"
+    meanings[5] = "successor not ascending, not above its node's number or not below the node count"
+    meanings[6] = "more than 4 variables, type above 1, hi below lo, or size 0 or above 32"
     meanings[7] = "a byte remains after the last record"
     meanings[8] = "a byte remains after sixteen policies"
     meanings[9] = "last day below first day"
-    meanings[10] = "node not above the one before it in its policy, or not below the node count"
+    meanings[10] = "node not ascending in its policy or not below the node count"
     meanings[11] = "mask has a bit at or above the variable's size"
     meanings[12] = "last day of the pass below its first day, or above the day after it"
     meanings[13] = "no instance meets the policies in force"

@@ -17,12 +17,17 @@
  *     same.
  *   - Until the call returns, no one else writes a buffer of the call, and no one else reads
  *     `out`.
- *   - The stack has room for the call: NEULENTA_STACK bytes are enough for any. In a thread of
- *     16 KiB all but neulenta_copy run over its end.
- *   - Header and library belong together: neulenta_compatible() once, at the start.
+ *   - Days are 0 to 65,535. A number beyond loses its high bits on the way in and is another
+ *     day; the call cannot see it.
+ *   - The stack has room for the call: NEULENTA_STACK bytes that are left are enough for any. A
+ *     thread takes part of its stack for itself: make it with PTHREAD_STACK_MIN + NEULENTA_STACK
+ *     or more. In one of 16 KiB, or of NEULENTA_STACK alone, all calls but neulenta_copy run over
+ *     its end; no page is left out, so that a guard page stops them.
+ *   - Header and library belong together: neulenta_compatible(), once at the start, is not 0. So
+ *     do source and header: a source says '#if NEULENTA_VERSION_MAJOR != 1' and '#error'.
  * Nothing is asked of the contents.
  *
- * The library is for x86-64 Linux and needs nothing but the C library:
+ * For C from C99 on, and C++. The library is for x86-64 Linux and needs nothing but the C library:
  *   cc program.c $(pkg-config --cflags --libs neulenta)            where it is installed
  *   cc -I include program.c target/staticlib/libexports.a          in the repository
  */
@@ -36,8 +41,9 @@
 extern "C" {
 #endif
 
-/* The version of the calls that this header declares. The major number rises when what a call
- * takes or answers changes its meaning, the minor one when something is added. */
+/* The version of the calls that this header declares. The major number rises when an argument or
+ * an answer of a call changes its meaning, a new number, file or verdict of a call included; the
+ * minor one when a call is added, or files may say more; the last one otherwise. */
 #define NEULENTA_VERSION_MAJOR 1
 #define NEULENTA_VERSION_MINOR 0
 #define NEULENTA_VERSION_PATCH 0
@@ -47,11 +53,12 @@ extern "C" {
 /* The bytes of the longest instance: a buffer of so many is never refused with 14. */
 #define NEULENTA_LONGEST 1283
 
-/* Bytes of stack that a call needs, from the caller's frame on: measured, and rounded up. */
+/* Bytes of stack that a call needs, from the caller's frame on: measured, also of a first call, in
+ * which the loader may have to find memset, and rounded up. */
 #define NEULENTA_RECONCILE_STACK 19456
 #define NEULENTA_CHECK_STACK 18432
 #define NEULENTA_COMPARE_STACK 18432
-#define NEULENTA_COPY_STACK 4096
+#define NEULENTA_COPY_STACK 8192
 #define NEULENTA_STACK 20480 /* enough for any of them */
 
 /* An answer that nobody looks at is a refusal that nobody sees: the compiler warns. */
@@ -61,7 +68,7 @@ extern "C" {
 #define NEULENTA_MUST_USE
 #endif
 
-/* What every call answers, returned by value.
+/* What every call but neulenta_version answers, returned by value.
  *
  * On success number, file and offset are 0. After a refusal value is 0 and `out` is as it was.
  */
@@ -146,15 +153,16 @@ static inline const char *neulenta_text(uint32_t number) {
         return "choice is no successor of a kind 1 node that has any, or not 255 elsewhere";
     case NEULENTA_WRONG_VALUE: return "value outside the schema's domain";
     case NEULENTA_FORBIDDEN: return "a policy in force forbids a choice or a value";
+    default: return "no such number";
     }
-    return "no such number";
 }
 
 /* The version of the library that is linked: NEULENTA_VERSION of the header that belongs to it. */
 uint32_t neulenta_version(void);
 
 /* Whether the linked library does what this header says: no older, and of the same major number.
- * The linker does not ask. */
+ * The linker does not compare them. */
+NEULENTA_MUST_USE
 static inline int neulenta_compatible(void) {
     return neulenta_version() / 65536 == NEULENTA_VERSION_MAJOR &&
            neulenta_version() >= NEULENTA_VERSION;

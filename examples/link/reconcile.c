@@ -8,6 +8,10 @@
 
 #include "neulenta.h"
 
+#if NEULENTA_VERSION_MAJOR != 1
+#error "written for version 1 of the calls"
+#endif
+
 static const uint8_t schema[] = {'S', 'H', 3, 'S', 'N', 1, 2, 1, 2, 0, 'S', 'N', 1, 0, 1, 0,
                                  0, 0, 0, 1, 0, 0, 0, 10, 'S', 'N', 1, 0, 0};
 static const uint8_t policies[] = {'P', 'H', 0, 100, 0, 100, 1, 'P', 'N', 0, 0, 5,

@@ -21,11 +21,13 @@ class Answer(ctypes.Structure):
 
 
 FILE = [ctypes.c_char_p, ctypes.c_size_t]
+DAYS = [ctypes.c_uint16, ctypes.c_uint16]  # a greater number would lose its high bits
+OUT = [ctypes.POINTER(ctypes.c_uint8), ctypes.c_size_t]
 
 neulenta = ctypes.CDLL("libneulenta.so.1")
 neulenta.neulenta_version.restype = ctypes.c_uint32
 neulenta.neulenta_reconcile.restype = Answer
-neulenta.neulenta_reconcile.argtypes = FILE + FILE + [ctypes.c_uint16, ctypes.c_uint16] + FILE
+neulenta.neulenta_reconcile.argtypes = FILE + FILE + DAYS + OUT
 
 SCHEMA = bytes.fromhex("534803 534E0102010200 534E01000100000000010000000A 534E010000")
 POLICIES = bytes.fromhex(
@@ -34,10 +36,10 @@ POLICIES = bytes.fromhex(
 
 if neulenta.neulenta_version() < VERSION:
     sys.exit("the library is older than this program")
-out = ctypes.create_string_buffer(LONGEST)
+out = (ctypes.c_uint8 * LONGEST)()
 answer = neulenta.neulenta_reconcile(
     SCHEMA, len(SCHEMA), POLICIES, len(POLICIES), 100, 101, out, LONGEST
 )
 if answer.number != 0:
     sys.exit(f"number {answer.number}, file {answer.file}, offset {answer.offset}")
-print(answer.number, out.raw[: answer.value].hex())
+print(answer.number, bytes(out[: answer.value]).hex())

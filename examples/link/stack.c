@@ -1,12 +1,18 @@
-/* Measures the stack that each call needs, on the largest files, and holds it to the header; the
- * last line is 'N passed, M failed'.
+/* Measures the stack that each call needs, on the largest files, and holds it to the header; then
+ * makes each call in a thread of the size that the header names. The last line is 'N passed, M
+ * failed'.
  *
  *   cc -I include examples/link/stack.c target/staticlib/libexports.a -o stack && ./stack
  */
-#define _XOPEN_SOURCE 700
+#define _DEFAULT_SOURCE
+#include <limits.h>
+#include <pthread.h>
 #include <stdio.h>
-#include <string.h>
+#include <stdlib.h>
+#include <sys/mman.h>
+#include <sys/wait.h>
 #include <ucontext.h>
+#include <unistd.h>
 
 #include "neulenta.h"
 
@@ -73,63 +79,105 @@ static void put_policies(file *f, int kind) {
     }
 }
 
-static file schema, policies, instance;
-static neulenta_answer answer;
+/* What all processes see. */
+static struct shared {
+    file schema, policies, instance;
+    neulenta_answer answer;
+    size_t depth;
+} *shared;
 
-#define BYTES(f) (f).bytes, (f).length
+#define BYTES(name) shared->name.bytes, shared->name.length
 
 static void reconcile(void) {
-    answer = neulenta_reconcile(BYTES(schema), BYTES(policies), 9, 10, instance.bytes, ROOM);
+    shared->answer = neulenta_reconcile(BYTES(schema), BYTES(policies), 9, 10,
+                                        shared->instance.bytes, ROOM);
 }
 
 static void check(void) {
-    answer = neulenta_check(BYTES(schema), BYTES(policies), 9, 10, BYTES(instance));
+    shared->answer = neulenta_check(BYTES(schema), BYTES(policies), 9, 10, BYTES(instance));
 }
 
 static void compare(void) {
-    answer = neulenta_compare(BYTES(schema), BYTES(policies), 9, 10, BYTES(instance),
-                              BYTES(instance));
+    shared->answer = neulenta_compare(BYTES(schema), BYTES(policies), 9, 10, BYTES(instance),
+                                      BYTES(instance));
 }
 
 static void copy(void) {
     static uint8_t out[NEULENTA_LONGEST];
-    answer = neulenta_copy(BYTES(schema), BYTES(instance), out, sizeof out);
+    shared->answer = neulenta_copy(BYTES(schema), BYTES(instance), out, sizeof out);
 }
 
-/* How many bytes of a stack of its own the call writes. It is called once before, since the
- * first call of a function of the C library may take more. */
-static size_t depth(void (*call)(void)) {
-    static uint8_t stack[ROOM];
+/* How many bytes of a stack of its own the call writes. The stack is filled byte by byte: the
+ * call must be the first to use memset. */
+static void measure(void (*call)(void)) {
+    static volatile uint8_t stack[ROOM];
     static ucontext_t here, there;
     size_t untouched = 0;
-    call();
-    memset(stack, OLD, ROOM);
+    for (size_t i = 0; i < ROOM; i++) stack[i] = OLD;
     getcontext(&there);
-    there.uc_stack.ss_sp = stack;
+    there.uc_stack.ss_sp = (void *)stack;
     there.uc_stack.ss_size = ROOM;
     there.uc_link = &here;
     makecontext(&there, call, 0);
     swapcontext(&here, &there);
     while (untouched < ROOM && stack[untouched] == OLD) untouched++;
-    return ROOM - untouched;
+    shared->depth = ROOM - untouched;
+}
+
+static void *in_thread(void *call) {
+    (*(void (**)(void))call)();
+    return NULL;
+}
+
+/* The call in a thread of the least size that the header names. */
+static void run_thread(void (*call)(void)) {
+    pthread_attr_t attributes;
+    pthread_t thread;
+    if (pthread_attr_init(&attributes) ||
+        pthread_attr_setstacksize(&attributes, PTHREAD_STACK_MIN + NEULENTA_STACK) ||
+        pthread_create(&thread, &attributes, in_thread, &call) || pthread_join(thread, NULL))
+        exit(1);
+}
+
+/* Whether a process of its own, in which nothing was called before, runs the call to its end and
+ * the call answers 0. */
+static int runs(void (*run)(void (*)(void)), void (*call)(void)) {
+    int status = -1;
+    shared->answer.number = UINT32_MAX;
+    fflush(stdout);
+    pid_t child = fork();
+    if (child == 0) {
+        run(call);
+        exit(0);
+    }
+    return child > 0 && waitpid(child, &status, 0) == child && status == 0 &&
+           shared->answer.number == NEULENTA_SUCCESS;
 }
 
 static int passed, failed;
 
-static void holds(const char *name, void (*call)(void), size_t stack) {
-    size_t needed = depth(call);
-    int good = answer.number == 0 && needed <= stack && stack <= NEULENTA_STACK;
-    printf("%s: %zu of %zu bytes of stack%s\n", name, needed, stack, good ? "" : ": FAILED");
+static void count(int good) {
+    puts(good ? "" : ": FAILED");
     good ? passed++ : failed++;
 }
 
+static void holds(const char *name, void (*call)(void), size_t stack) {
+    int good = runs(measure, call) && shared->depth <= stack && stack <= NEULENTA_STACK;
+    printf("%s: %zu of %zu bytes of stack", name, shared->depth, stack);
+    count(good);
+    printf("%s in a thread", name);
+    count(runs(run_thread, call));
+}
+
 int main(void) {
+    shared = mmap(NULL, sizeof *shared, PROT_READ | PROT_WRITE, MAP_SHARED | MAP_ANONYMOUS, -1, 0);
+    if (shared == MAP_FAILED) return 2;
     for (int kind = 0; kind <= 1; kind++) {
-        schema.length = policies.length = 0;
-        put_schema(&schema, kind);
-        put_policies(&policies, kind);
+        shared->schema.length = shared->policies.length = 0;
+        put_schema(&shared->schema, kind);
+        put_policies(&shared->policies, kind);
         holds("reconcile", reconcile, NEULENTA_RECONCILE_STACK);
-        instance.length = answer.value;
+        shared->instance.length = shared->answer.value;
         holds("check", check, NEULENTA_CHECK_STACK);
         holds("compare", compare, NEULENTA_COMPARE_STACK);
         holds("copy", copy, NEULENTA_COPY_STACK);

@@ -9,10 +9,11 @@ const DEFAULT_FOLDER: &str = "../../target/staticlib";
 
 fn main() {
     println!("cargo::rerun-if-env-changed={FOLDER}");
-    let (folder, names): (PathBuf, &[&str]) = match env::var_os(FOLDER) {
-        Some(folder) => (folder.into(), &["neulenta", "exports"]),
-        None => (DEFAULT_FOLDER.into(), &["exports"]),
-    };
+    let (folder, names): (PathBuf, &[&str]) =
+        match env::var_os(FOLDER).filter(|folder| !folder.is_empty()) {
+            Some(folder) => (folder.into(), &["neulenta", "exports"]),
+            None => (DEFAULT_FOLDER.into(), &["exports"]),
+        };
     let archive = |name: &&str| folder.join(format!("lib{name}.a"));
     match names.iter().find(|name| archive(name).is_file()) {
         Some(name) => {

@@ -92,7 +92,7 @@ pub record Rows : Type 0 where
   pub last-days : checking example-schema example-policies 65535 65535 (bytes "494802 494E0001 494E01FF0000000A") ≡ record { number = 0; file = 0; offset = 0; value = 0 }
   pub bounds-met : checking example-schema example-policies 101 101 (bytes "494802 494E0001 494E01FF00000008") ≡ record { number = 0; file = 0; offset = 0; value = 0 }
   pub rank-254 : checking example-schema (bytes "50480064006401 504E00FE00") 100 100 (bytes "494802 494E0001 494E01FF00000001") ≡ record { number = 0; file = 0; offset = 0; value = 0 }
-  -- 'policies have no count': a stray byte is a head's
+  -- policies have no count: a stray byte is a head's
   pub stray-byte : checking example-schema (example-policies ++ bytes "50") 1 1 [] ≡ record { number = 2; file = 2; offset = 35; value = 0 }
   pub stray-bytes : checking example-schema (example-policies ++ bytes "504E") 1 1 [] ≡ record { number = 1; file = 2; offset = 35; value = 0 }
   -- 'kind 0 has no ranks', nor has a leaf

@@ -1,5 +1,4 @@
--- The version of the calls: its major, minor and patch numbers, 8 bits each. The major one rises when what a call takes or
--- answers changes its meaning, the minor one when something is added.
+-- The version of the calls: its major, minor and patch numbers, 8 bits each. CHANGELOG.md says when each rises.
 use Prim.Native.Nat.{ℕ, _+_, _*_}
 
 abbrev pub major : ℕ

@@ -1,5 +1,5 @@
-// The calls for C and Rust: a slice passes as a pointer and a length. Each contract says what the answer and the buffer are,
-// and then what the demands say of them.
+// The calls for C and Rust: a slice passes as a pointer and a length. The contract of each of the four says what the answer
+// and the buffer are, and then what the demands say of them; the fifth function tells the version.
 ghost use mathlib.Core.Path.{_≡_};
 ghost use Rattle.calls.specs.Calls.{reconciling, checking, comparing, copying};
 ghost use Rattle.calls.proofs.ByCall.{Reconciles, Checks, Compares, Copies};

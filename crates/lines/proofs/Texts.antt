@@ -1,4 +1,4 @@
--- Texts of the cases as lists of numbers: the ASCII codes of a line, the bytes that stand in a paper in hex.
+-- Texts of the cases as lists of numbers: the ASCII codes of a line, the bytes that 01 writes in hex.
 -- Rests on what hex digits say (ReadBack).
 use mathlib.Core.Bool.{cond, _&&_}
 use mathlib.Core.List.{List, [], _∷_}

@@ -1,4 +1,4 @@
-//! Inputs for programs after document 01 (random valid files, fixed shapes, spoiled files) and
+//! Inputs for programs after 01 (random valid files, fixed shapes, spoiled files) and
 //! the comparison of the static library with the reference on them.
 
 pub mod generate;

@@ -9,6 +9,11 @@
 //! keeps nothing for the next and allocates nothing. The thread that calls must have [`STACK`] bytes
 //! of stack left. A call that refuses says why, in which file and at which offset ([`Refused`]).
 //!
+//! The crate is used from within its repository, `neulenta = { path = "../rust/neulenta" }`, on x86-64
+//! Linux. It links `target/staticlib/libexports.a`, which `rt staticlib exports` makes there, or the
+//! archive in the folder that the environment variable `NEULENTA_LIB` names, by an absolute path:
+//! `PREFIX/lib` where the library is installed. Then [`compatible`] says whether that one will do.
+//!
 //! `a` and `b`, where a call takes them, are the first and the last day of the pass: `b` is `a` or
 //! `a + 1`, else the call refuses.
 //!
@@ -46,8 +51,8 @@
 //! # Panics
 //!
 //! A call panics if the library answers what this wrapper does not have. Then the two are of
-//! different versions: compare [`version`] with [`VERSION`]. The library of this version is proved
-//! to answer nothing else.
+//! different versions, and not [`compatible`]. The library of this version is proved to answer
+//! nothing else.
 
 mod answer;
 pub mod raw;
@@ -57,7 +62,8 @@ pub use answer::{File, Refusal, Refused, Verdict};
 /// The bytes of the longest instance. A buffer of this length is never refused as too short.
 pub const LONGEST: usize = 1_283;
 
-/// Bytes of stack that are enough for any call.
+/// Bytes of stack that, left, are enough for any call. A thread needs some for itself: give it a
+/// `stack_size` of `STACK + 16_384` or more.
 pub const STACK: usize = 20_480;
 
 /// The version of the calls for which this wrapper is written: major, minor and patch in a byte
@@ -68,6 +74,13 @@ pub const VERSION: u32 = 0x01_00_00;
 #[must_use]
 pub fn version() -> u32 {
     raw::version()
+}
+
+/// Whether the library that is linked does what this wrapper expects: no older, and of the same major
+/// number.
+#[must_use]
+pub fn compatible() -> bool {
+    version() >> 16 == VERSION >> 16 && version() >= VERSION
 }
 
 /// Writes at the start of `out` the best instance that meets every policy in force from day `a` to

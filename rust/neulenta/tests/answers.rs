@@ -40,4 +40,5 @@ fn another_file_panics() {
 #[test]
 fn the_library_has_the_version_of_the_wrapper() {
     assert_eq!(neulenta::version(), neulenta::VERSION);
+    assert!(neulenta::compatible());
 }

@@ -1,4 +1,4 @@
-//! The wrapper has the names, numbers and texts of the C header.
+//! The wrapper has the names, numbers and texts of the C header; examples/show has the texts too.
 
 use std::collections::BTreeMap;
 use std::fmt::Debug;
@@ -74,6 +74,15 @@ fn texts_are_those_of_the_header() {
         let case = between(&format!("case {}:", c_name(refusal)), ";");
         let text: String = case.split('"').skip(1).step_by(2).collect();
         assert_eq!(refusal.to_string(), text, "{refusal:?}");
+    }
+}
+
+#[test]
+fn examples_show_has_the_texts_of_what_the_program_refuses() {
+    let script = include_str!(concat!(env!("CARGO_MANIFEST_DIR"), "/../../examples/show.awk"));
+    for refusal in refusals().take_while(|refusal| *refusal != Refusal::ShortBuffer) {
+        let line = format!("    meanings[{}] = \"{refusal}\"\n", refusal.number());
+        assert!(script.contains(&line), "{line}");
     }
 }
 

@@ -1,5 +1,6 @@
-//! Document 01 as a program of its own, written from the paper alone: the readers of the three
-//! files, the four calls and what passplan prints. One file for each section.
+//! The specification, 01 (docs/MODEL.md and docs/NUMBERS.md say it), as a program of its own, written
+//! from it alone: the readers of the three files, the four calls and what passplan prints. One file
+//! for each section.
 #![forbid(unsafe_code)]
 
 mod answer;

@@ -123,8 +123,8 @@ fn not_above(value: Value, other: Value) -> bool {
     }
 }
 
-/// 'The checker accepts an instance file exactly when it meets every policy in force', and its
-/// refusal is at the first forbidden field.
+/// 'The checker accepts an instance file exactly when it encodes an instance that meets every policy
+/// in force', and its refusal is at the first forbidden field.
 #[test]
 fn the_checker_is_right() {
     let (mut accepted, mut forbidden) = (0, 0);
