@@ -1,7 +1,7 @@
 # What examples/show says of a folder. It reads, one after the other, as the variable part says: the
 # bytes of the schema and of the passes as numbers, the legend (has_legend is 1 if there is one) and
-# what passplan printed, of which so many lines are whole (whole). Without the last it only holds the
-# legend to the schema and the passes. FOLDER is the folder's name.
+# what passplan printed, of which so many lines are whole (whole). The schema is one that passplan
+# accepts; if it is not, refused says why, and it is not read. FOLDER is the folder's name.
 
 BEGIN {
     errors = "cat >&2"
@@ -14,13 +14,11 @@ part == "legend" { legend[++legend_end] = $0 }
 part == "printed" && FNR <= whole { printed[++printed_end] = $0 }
 
 END {
-    read_schema()
     read_passes()
+    if (refused) say("the schema of " ENVIRON["FOLDER"] " is refused (" refused "): no names are used")
+    else read_schema()
     if (has_legend && !refused) hold_legend()
-    if (part == "printed") tell()
-    else if (refused)
-        say("the schema of " ENVIRON["FOLDER"] " is not well-formed (number " refused ", offset " \
-            refused_at "): no names are used")
+    if (!faults) tell()
     close(errors)
     exit (faults > 0)
 }
@@ -30,59 +28,31 @@ function say(text) { print "examples/show: " text | errors }
 function signed(value) { return value < 2147483648 ? value : value - 4294967296 }
 
 # -- The schema, as docs/NUMBERS.md has it: how many nodes, how many variables each has (counts), and
-# of a variable lo and hi, or size if it is a listed one. The first breach is kept: its number
-# (refused) and its offset (refused_at).
-
-function refuse(number) {
-    if (refused) return
-    refused = number
-    refused_at = field_at
-}
+# of a variable lo and hi, or size if it is a listed one.
 
 # The next field.
 function field(width,    value) {
-    field_at = schema_at + 0
-    if (schema_at + width > schema_end) refuse(2)
-    if (refused) return 0
     for (value = 0; width > 0; width--) value = 256 * value + schema[schema_at++]
     return value
 }
 
-function read_schema(    node) {
-    if (field(2) != 21320) refuse(1) # SH
+function read_schema(    node, left, v) {
+    field(2) # SH
     nodes = field(1)
-    if (nodes < 1 || nodes > 64) refuse(3)
-    for (node = 0; node < nodes && !refused; node++) read_node(node)
-    field_at = schema_at
-    if (schema_at < schema_end) refuse(7)
-}
-
-function read_node(node,    kind, left, successor, above, v) {
-    if (field(2) != 21326) refuse(1) # SN
-    kind = field(1)
-    if (kind > 1) refuse(4)
-    left = field(1)
-    if (left > 8 || (left == 0 && kind == 0)) refuse(4)
-    for (above = node; left > 0 && !refused; left--) {
-        successor = field(1)
-        if (successor <= above || successor >= nodes) refuse(5)
-        above = successor
+    for (node = 0; node < nodes; node++) {
+        field(2) # SN
+        field(1) # kind
+        for (left = field(1); left > 0; left--) field(1)
+        counts[node] = field(1)
+        for (v = 0; v < counts[node]; v++) read_variable(node, v)
     }
-    counts[node] = field(1)
-    if (counts[node] > 4) refuse(6)
-    for (v = 0; v < counts[node] && !refused; v++) read_variable(node, v)
 }
 
-function read_variable(node, v,    type) {
-    type = field(1)
-    if (type > 1) refuse(6)
-    if (type == 1) {
-        size[node, v] = field(1)
-        if (size[node, v] < 1 || size[node, v] > 32) refuse(6)
-    } else {
+function read_variable(node, v) {
+    if (field(1) == 1) size[node, v] = field(1)
+    else {
         lo[node, v] = signed(field(4))
         hi[node, v] = signed(field(4))
-        if (hi[node, v] < lo[node, v]) refuse(6)
     }
 }
 
@@ -220,17 +190,12 @@ function tell_line(i,    at) {
     if (days[i] == "- -") print "record " i " of the passes: the run ended there"
     else {
         print "pass from day " at[1] " to day " at[2]
-        hold_schema(i, at[4] == 1 ? "number " at[3] ", offset " at[5] : "well-formed")
+        if ((at[4] == 1) != (refused != ""))
+            fault("line " i " of passplan does not say of the schema what its line for day 0 says")
     }
     if ((at[1], at[2]) in notes) print "  (" notes[at[1], at[2]] ")"
     if (at[3] == 0) tell_instance(i, at[6])
     else print "  refused: number " at[3] ", " files[at[4]] ", offset " at[5] ": " meanings[at[3]]
-}
-
-# Holds what passplan found of the schema to what was found here.
-function hold_schema(i, said,    found) {
-    found = refused ? "number " refused ", offset " refused_at : "well-formed"
-    if (said != found) fault("line " i " of passplan: schema " said "; found here: " found)
 }
 
 # The next digits of the instance as a number.

@@ -22,7 +22,7 @@
  *   - The stack has room for the call: NEULENTA_STACK bytes that are left are enough for any. A
  *     thread takes part of its stack for itself: make it with PTHREAD_STACK_MIN + NEULENTA_STACK
  *     or more. In one of 16 KiB, or of NEULENTA_STACK alone, all calls but neulenta_copy run over
- *     its end; no page is left out, so that a guard page stops them.
+ *     its end; they touch each page in turn, so that a guard page stops them.
  *   - Header and library belong together: neulenta_compatible(), once at the start, is not 0. So
  *     do source and header: a source says '#if NEULENTA_VERSION_MAJOR != 1' and '#error'.
  * Nothing is asked of the contents.
