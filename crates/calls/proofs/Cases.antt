@@ -11,8 +11,9 @@ use Rattle.fields.specs.Reading.{part, be, whole, field, mark, many, ended}
 use Rattle.fields.specs.Writing.{spell}
 use Rattle.numbers.specs.Bits.{bit, ones}
 use Rattle.schema.specs.Schema.{successors, links, number, listed, variable, variables, variablesOf, node, nodes, body, schema}
+use Rattle.schema.specs.Layout.{rankCount}
 use Rattle.policies.specs.Pass.{pass, inForce, forced}
-use Rattle.policies.specs.Policies.{rankCount, ranks, condition, conditions, ruleOf, rule, rules, head, policy, onward, policiesFrom, policies, ruleFor, rankOf, conditionsOf}
+use Rattle.policies.specs.Policies.{ranks, condition, conditions, ruleOf, rule, rules, head, policy, onward, policiesFrom, policies, ruleFor, rankOf, conditionsOf}
 use Rattle.instances.specs.File.{reached, due, noneBelow, lowestDue, valueWidth, valueOf, value, values, entryOf, entry, entries, instance, encodeValue, encodeValues, encodeEntry, encodeEntries, encode}
 use Rattle.instances.specs.Instance.{chooses, reaches, rightChoice, inDomain, has}
 use Rattle.instances.specs.Plan.{plannedFrom, planned}

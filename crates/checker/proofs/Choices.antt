@@ -11,7 +11,8 @@ use lib.ListN.{length, getD, drop, drop-of-length-le}
 use Rattle.fields.proofs.Tests.{and-true, never}
 use Rattle.schema.specs.Schema.{Node, schemaOf, nodeAt}
 use Rattle.schema.specs.Table.{NodeIn, AtMost}
-use Rattle.policies.specs.Policies.{Policy, rankCount, rankOf}
+use Rattle.schema.specs.Layout.{rankCount}
+use Rattle.policies.specs.Policies.{Policy, rankOf}
 use Rattle.policies.specs.Pass.{selected, Selected}
 use Rattle.policies.specs.Index.{RankIn, policyOf}
 use Rattle.instances.specs.Instance.{elem, chooses, rightChoice}

@@ -10,7 +10,8 @@ use lib.Dec.{eqb, ltb}
 use lib.ListN.{length, List·getD-eq-default, getD, drop, drop-of-length-le}
 use Rattle.schema.specs.Schema.{Node, nodeAt, schemaOf}
 use Rattle.schema.specs.Table.{NodeIn, AtMost}
-use Rattle.policies.specs.Policies.{Rule, Policy, rankCount, rankOf}
+use Rattle.schema.specs.Layout.{rankCount}
+use Rattle.policies.specs.Policies.{Rule, Policy, rankOf}
 use Rattle.policies.specs.Pass.{selected}
 use Rattle.policies.specs.Index.{PolicyIn, RankIn, policyOf}
 use Rattle.policies.proofs.Above.{selected-rows, selected-few, selected-row, selected-in, selected-drop}

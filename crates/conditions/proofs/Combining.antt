@@ -18,10 +18,10 @@ use Rattle.schema.specs.Schema.{Node, schemaOf, nodeAt, noVariable, isNumber}
 use Rattle.schema.specs.Table.{NodeIn, AtMost}
 use Rattle.schema.specs.declared.Variable.{Variable}
 use Rattle.schema.specs.declared.Variable.the-variants.{Number, Listed}
+use Rattle.schema.specs.Layout.{rankCount, span, spans, offsetOf}
 use Rattle.schema.proofs.Sound.{SoundVariable, SoundVariables}
 use Rattle.schema.proofs.Access.{here}
-use Rattle.policies.specs.Policies.{Condition, range, mask, Policy, rankCount}
-use Rattle.policies.specs.Index.{span, spans, offsetOf}
+use Rattle.policies.specs.Policies.{Condition, range, mask, Policy}
 use Rattle.policies.proofs.Nodes.{spans-next}
 use Rattle.model.specs.Reconciling.{own, restrictAll, combinedFrom, combined}
 use Rattle.model.proofs.Values.{combined-at}

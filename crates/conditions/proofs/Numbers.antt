@@ -21,8 +21,8 @@ use Rattle.schema.specs.Schema.{Node, nodeAt, noVariable, variableAt, isNumber}
 use Rattle.schema.specs.Table.{AtMost}
 use Rattle.schema.specs.declared.Variable.{Variable}
 use Rattle.schema.specs.declared.Variable.the-variants.{Number, Listed}
-use Rattle.policies.specs.Policies.{Condition, range, mask, Policy, rankCount}
-use Rattle.policies.specs.Index.{span, spans, offsetOf}
+use Rattle.schema.specs.Layout.{rankCount, span, spans, offsetOf}
+use Rattle.policies.specs.Policies.{Condition, range, mask, Policy}
 use Rattle.model.specs.Satisfaction.{every}
 use Rattle.model.specs.Reconciling.{own, both, restrictAll, combined}
 use Rattle.model.proofs.Values.{combined-at}

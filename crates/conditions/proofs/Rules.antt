@@ -20,8 +20,9 @@ use Rattle.fields.proofs.Tests.{never}
 use Rattle.schema.specs.Schema.{Node, schemaOf, nodeAt, noVariable, isNumber}
 use Rattle.schema.specs.declared.Variable.{Variable}
 use Rattle.schema.specs.declared.Variable.the-variants.{Number, Listed}
-use Rattle.policies.specs.Policies.{Condition, range, mask, Rule, Policy, ranks, condition, conditions, ruleOf, conditionsOf, hasRule, ruleFor, rankCount, rankOf, ofRules, policyAt}
-use Rattle.policies.specs.Index.{conditionWidth, placeIn, PolicyIn, policyOf, span, spans, offsetOf}
+use Rattle.schema.specs.Layout.{rankCount, span, spans, offsetOf}
+use Rattle.policies.specs.Policies.{Condition, range, mask, Rule, Policy, ranks, condition, conditions, ruleOf, conditionsOf, hasRule, ruleFor, rankOf, ofRules, policyAt}
+use Rattle.policies.specs.Index.{conditionWidth, placeIn, PolicyIn, policyOf}
 use Rattle.policies.proofs.Stands.{ConditionAt, width-span, ConditionsAt, none, more, RanksAt, Ruled, rule-of-back}
 use Rattle.policies.proofs.Places.{Place, absent, present, row, row-none, rest, place-inside}
 use Rattle.model.specs.Satisfaction.{conditionAt}

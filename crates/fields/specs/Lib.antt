@@ -2,3 +2,4 @@ pub mod Reading
 pub mod Writing
 pub mod Answers
 pub mod Outcomes
+pub mod Runs

@@ -13,9 +13,10 @@ use lib.ListN.{length}
 use Rattle.fields.proofs.Tests.{and-true, never}
 use Rattle.schema.specs.Schema.{Node, schemaOf, nodeAt}
 use Rattle.schema.specs.Table.{NodeIn, AtMost, SuccessorIs}
+use Rattle.schema.specs.Layout.{rankCount}
 use Rattle.schema.proofs.Accepted.{file-of}
 use Rattle.schema.proofs.Access.{here}
-use Rattle.policies.specs.Policies.{Policy, rankCount}
+use Rattle.policies.specs.Policies.{Policy}
 use Rattle.instances.specs.Instance.{chooses}
 use Rattle.instances.specs.Plan.{valuesFrom}
 use Rattle.model.specs.Satisfaction.{every}

@@ -13,7 +13,8 @@ use lib.IntN.{ℤ}
 use lib.Signed.{leZ}
 use Rattle.fields.specs.Writing.{unsigned}
 use Rattle.schema.specs.Schema.{Node, mostNodes, schemaOf, nodeAt}
-use Rattle.policies.specs.Policies.{Policy, rankCount, mostPolicies}
+use Rattle.schema.specs.Layout.{rankCount}
+use Rattle.policies.specs.Policies.{Policy, mostPolicies}
 use Rattle.instances.specs.Instance.{chooses}
 use Rattle.instances.specs.Plan.{planned, nodesOf, valuesFrom, valuesSlot, valueSlot, planOf, BitsRoom}
 use Rattle.model.specs.Reconciling.{isSome, leastEach, taken, canStep, can, plan, rulesOf}

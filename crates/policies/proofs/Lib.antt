@@ -6,3 +6,4 @@ pub mod Places
 pub mod Within
 pub mod Pass
 pub mod Above
+pub mod Said

@@ -10,9 +10,9 @@ use lib.ListN.{length, getD}
 use Rattle.schema.specs.Schema.{Node, schemaOf, noVariable}
 use Rattle.schema.specs.Table.{AtMost}
 use Rattle.schema.specs.declared.Variable.{Variable}
+use Rattle.schema.specs.Layout.{rankCount, span, spans}
 use Rattle.schema.proofs.Accepted.{file-of}
-use Rattle.policies.specs.Policies.{rankCount}
-use Rattle.policies.specs.Index.{span, spans, RankIn}
+use Rattle.policies.specs.Index.{RankIn}
 
 pub nodes-few : (s : List ℕ) → length (schemaOf s) ≤ 64
 nodes-few s = go (decLt 0 (length (schemaOf s)))

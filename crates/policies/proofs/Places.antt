@@ -13,7 +13,8 @@ use lib.Dec.{eqb}
 use mir.Syntax.{w64}
 use mir.Val.{Fits}
 use Rattle.schema.specs.Schema.{Node, nodeAt, schemaOf}
-use Rattle.policies.specs.Policies.{Rule, Policy, rankCount, policiesOf, policyAt, noRule, hasRule, ruleFor, rankOf}
+use Rattle.schema.specs.Layout.{rankCount}
+use Rattle.policies.specs.Policies.{Rule, Policy, policiesOf, policyAt, noRule, hasRule, ruleFor, rankOf}
 use Rattle.policies.specs.Index.{ruleWidth, policyWidth, policyOf, Indexed, PolicyIn, RankIn}
 use Rattle.policies.proofs.Stands.{none, more, RuleAt, RulesAt, PolicyAt, PoliciesAt}
 use Rattle.policies.proofs.Sound.{stood}

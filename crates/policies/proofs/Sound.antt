@@ -15,7 +15,8 @@ use Rattle.fields.specs.Reading.{Got, got, bad, be, signed}
 use Rattle.schema.specs.Schema.{Node, nodeAt, noVariable}
 use Rattle.schema.specs.declared.Variable.{Variable}
 use Rattle.schema.specs.declared.Variable.the-variants.{Number, Listed}
-use Rattle.policies.specs.Policies.{Condition, range, mask, Rule, Policy, rankCount, policies, policiesIn, policiesOf, policyAt, noRule, ruleFor}
+use Rattle.schema.specs.Layout.{rankCount}
+use Rattle.policies.specs.Policies.{Condition, range, mask, Rule, Policy, policies, policiesIn, policiesOf, policyAt, noRule, ruleFor}
 use Rattle.policies.proofs.Stands.{ConditionAt, ConditionsAt, none, more, RuleAt, RulesAt, PolicyAt, PoliciesAt, head-back, policies-back}
 
 -- ---- the statement

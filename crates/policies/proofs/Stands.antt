@@ -15,8 +15,9 @@ use Rattle.fields.proofs.Tests.{and-true}
 use Rattle.schema.specs.Schema.{Node, nodeAt}
 use Rattle.schema.specs.declared.Variable.{Variable}
 use Rattle.schema.specs.declared.Variable.the-variants.{Number, Listed}
-use Rattle.policies.specs.Policies.{Condition, range, mask, Rule, Policy, Head, PH, PN, rankCount, ranks, condition, conditions, ruleOf, rule, rules, head, headWidth, policy, onward, policiesFrom}
-use Rattle.policies.specs.Index.{conditionWidth, conditionsWidth, span, ruleWidth, rulesWidth, policyWidth}
+use Rattle.schema.specs.Layout.{rankCount, span}
+use Rattle.policies.specs.Policies.{Condition, range, mask, Rule, Policy, Head, PH, PN, ranks, condition, conditions, ruleOf, rule, rules, head, headWidth, policy, onward, policiesFrom}
+use Rattle.policies.specs.Index.{conditionWidth, conditionsWidth, ruleWidth, rulesWidth, policyWidth}
 
 -- ---- a condition
 

@@ -13,8 +13,9 @@ use Rattle.fields.proofs.Refusals.{ofFile, Numbered, cond-numbered}
 use Rattle.schema.specs.Schema.{Node, nodeAt}
 use Rattle.schema.specs.declared.Variable.{Variable}
 use Rattle.schema.specs.declared.Variable.the-variants.{Number, Listed}
+use Rattle.schema.specs.Layout.{rankCount}
 use Rattle.policies.specs.Pass.{pass}
-use Rattle.policies.specs.Policies.{Policy, PH, PN, rankCount, ranks, condition, conditions, ruleOf, rule, rules, head, policy, onward, policiesFrom, policies}
+use Rattle.policies.specs.Policies.{Policy, PH, PN, ranks, condition, conditions, ruleOf, rule, rules, head, policy, onward, policiesFrom, policies}
 
 -- where a reading ends or a refusal points
 abbrev pub endOf : {A : Type 0} → Got A → ℕ

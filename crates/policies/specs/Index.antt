@@ -9,14 +9,8 @@ use Rattle.schema.specs.Schema.{Node, schemaOf, nodeAt}
 use Rattle.schema.specs.Table.{Tabled}
 use Rattle.schema.specs.declared.Variable.{Variable}
 use Rattle.schema.specs.declared.Variable.the-variants.{Number, Listed}
-use Rattle.policies.specs.Policies.{Condition, range, mask, Rule, Policy, rankCount, mostPolicies, policiesOf, policyAt}
-
--- the bytes of a number's condition and of a listed variable's
-abbrev pub rangeWidth : ℕ
-rangeWidth = 8
-
-abbrev pub maskWidth : ℕ
-maskWidth = 4
+use Rattle.schema.specs.Layout.{rankCount, rangeWidth, maskWidth}
+use Rattle.policies.specs.Policies.{Condition, range, mask, Rule, Policy, mostPolicies, policiesOf, policyAt}
 
 -- the bytes of a condition, of a PN and of a policy
 unfoldable pub conditionWidth : Condition → ℕ
@@ -36,20 +30,6 @@ rulesWidth (x ∷ xs) = ruleWidth x + rulesWidth xs
 
 unfoldable pub policyWidth : Policy → ℕ
 policyWidth x = x .body + rulesWidth (x .rules)
-
--- the same from the schema: the bytes of a variable's condition, and of the conditions before the k-th
-unfoldable pub span : Variable → ℕ
-span (Number lo hi) = rangeWidth
-span (Listed size) = maskWidth
-
-unfoldable pub spans : ℕ → List Variable → ℕ
-spans zero vs = 0
-spans (suc k) [] = 0
-spans (suc k) (v ∷ vs) = span v + spans k vs
-
--- where condition k stands in a node's PN, counted from the ranks
-unfoldable pub offsetOf : Node → ℕ → ℕ
-offsetOf x k = rankCount x + spans k (x .variables)
 
 -- the slots of the index: one for the head of each policy, then one a policy for each node; so many up to node n
 abbrev pub headSlot : ℕ → ℕ

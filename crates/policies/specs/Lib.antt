@@ -1,3 +1,4 @@
 pub mod Policies
 pub mod Pass
 pub mod Index
+pub mod Rows

@@ -7,6 +7,7 @@ use lib.Dec.{leb, ltb, eqb}
 use lib.IntN.{ℤ}
 use Rattle.fields.specs.Reading.{Got, got, bad, part, whole, field, mark, many, signed}
 use Rattle.schema.specs.Schema.{Node, nodeAt}
+use Rattle.schema.specs.Layout.{rankCount}
 use Rattle.schema.specs.declared.Variable.{Variable}
 use Rattle.schema.specs.declared.Variable.the-variants.{Number, Listed}
 
@@ -35,9 +36,6 @@ abbrev pub PN : List ℕ
 PN = 0x50 ∷ 0x4e ∷ []
 
 -- 'for a kind 1 node follows one rank u8 for each successor'
-unfoldable pub rankCount : Node → ℕ
-rankCount x = cond (eqb (x .kind) 1) (length (x .successors)) 0
-
 unfoldable pub ranks : List ℕ → ℕ → ℕ → Got (List ℕ)
 ranks s k p = many {S = ℕ} (λ _ p. whole 1 s p) (λ i _. i) k 0 p
 

@@ -23,9 +23,10 @@ use Rattle.numbers.specs.Bits.{ones}
 use Rattle.schema.specs.Schema.{Node, schemaOf, nodeAt, noVariable, isNumber}
 use Rattle.schema.specs.declared.Variable.{Variable}
 use Rattle.schema.specs.declared.Variable.the-variants.{Number, Listed}
+use Rattle.schema.specs.Layout.{rankCount, span, spans, offsetOf}
 use Rattle.schema.proofs.Accepted.{file-of, view}
-use Rattle.policies.specs.Policies.{Condition, range, mask, Rule, rankCount, ranks, condition, conditions, ruleOf}
-use Rattle.policies.specs.Index.{conditionWidth, conditionsWidth, span, spans, offsetOf}
+use Rattle.policies.specs.Policies.{Condition, range, mask, Rule, ranks, condition, conditions, ruleOf}
+use Rattle.policies.specs.Index.{conditionWidth, conditionsWidth}
 use Rattle.policy_reader.specs.Body.{mostOf, shapeFrom, shapeOf, Laid, noneOver, Looking}
 use Rattle.policies.proofs.Nodes.{nodes-few}
 use Rattle.policies.proofs.Stands.{ConditionAt, width-span, ConditionsAt, none, more, Ruled}

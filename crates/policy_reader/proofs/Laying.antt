@@ -18,8 +18,8 @@ use Rattle.schema.specs.Schema.{Node, schemaOf, nodeAt, noVariable, variableAt,
 use Rattle.schema.specs.Table.{NodeIn, AtMost}
 use Rattle.schema.specs.declared.Variable.{Variable}
 use Rattle.schema.specs.declared.Variable.the-variants.{Number, Listed}
-use Rattle.policies.specs.Policies.{rankCount}
-use Rattle.policies.specs.Index.{span, spans, offsetOf, SchemaIn}
+use Rattle.schema.specs.Layout.{rankCount, span, spans, offsetOf}
+use Rattle.policies.specs.Index.{SchemaIn}
 use Rattle.policy_reader.specs.Body.{mostOf, shapeFrom, shapeOf, NodeLaid, Laid}
 use Rattle.policies.proofs.Nodes.{nodes-few, spans-next}
 use Rattle.policy_reader.proofs.Body.{variables-few}

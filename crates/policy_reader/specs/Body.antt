@@ -11,8 +11,7 @@ use Rattle.numbers.specs.Bits.{ones}
 use Rattle.schema.specs.Schema.{Node, mostNodes, nodeAt, noVariable}
 use Rattle.schema.specs.declared.Variable.{Variable}
 use Rattle.schema.specs.declared.Variable.the-variants.{Number, Listed}
-use Rattle.policies.specs.Policies.{rankCount}
-use Rattle.policies.specs.Index.{rangeWidth, maskWidth, offsetOf}
+use Rattle.schema.specs.Layout.{rankCount, rangeWidth, maskWidth, offsetOf}
 
 -- the greatest number that the first four bytes of a variable's condition may spell
 unfoldable pub mostOf : Variable → ℕ

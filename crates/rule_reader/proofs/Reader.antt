@@ -22,7 +22,8 @@ use Rattle.schema.specs.Schema.{Node, noVariable}
 use Rattle.schema.specs.Table.{AtMost}
 use Rattle.schema.specs.declared.Variable.{Variable}
 use Rattle.schema.specs.declared.Variable.the-variants.{Number, Listed}
-use Rattle.policies.specs.Policies.{rankCount, ranks, condition, conditions, ruleOf}
+use Rattle.schema.specs.Layout.{rankCount}
+use Rattle.policies.specs.Policies.{ranks, condition, conditions, ruleOf}
 
 -- one rank of those that are left
 module _ (s : List ℕ) (k p : ℕ) {X : Step} where
