@@ -1,4 +1,4 @@
--- Which of the selected policies name each node, by where their PN stand in the file; and the policies that such rows note.
+-- Which of the selected policies name each node, by the offsets of their PN; and the policies that such rows note.
 use Prim.Native.Nat.{ℕ, zero, suc, _+_, _*_, _%_, _<_, _≤_}
 use mathlib.Core.Path.{_≡_}
 use mathlib.Core.Bool.{Bool, true, false, cond}
@@ -14,16 +14,16 @@ use Rattle.policies.specs.Index.{ruleWidth, policyWidth}
 abbrev pub rowSlot : ℕ → ℕ
 rowSlot n = 17 * n
 
-abbrev pub placeSlot : ℕ → ℕ → ℕ
-placeSlot n r = rowSlot n + 1 + r
+abbrev pub offsetSlot : ℕ → ℕ → ℕ
+offsetSlot n r = rowSlot n + 1 + r
 
--- a number as two bytes hold it; every place in an accepted file is below 65,536
+-- a number as two bytes hold it; every offset in an accepted file is below 65,536
 unfoldable pub short : ℕ → ℕ
 short o = o % 65536
 
 -- one more PN of node n, whose ranks begin at o
 unfoldable pub note : ℕ → ℕ → List ℕ → List ℕ
-note n o t = set (set t (placeSlot n (getD t (rowSlot n) 0)) (short o)) (rowSlot n) (getD t (rowSlot n) 0 + 1)
+note n o t = set (set t (offsetSlot n (getD t (rowSlot n) 0)) (short o)) (rowSlot n) (getD t (rowSlot n) 0 + 1)
 
 -- those of a policy whose head stands at h, from p on
 unfoldable pub noteRules : ℕ → ℕ → List Rule → List ℕ → List ℕ
@@ -60,19 +60,19 @@ ruleIn (bad m o) = noRule
 unfoldable pub ruleAt : List Node → List ℕ → ℕ → ℕ → Rule
 ruleAt g p n o = ruleIn (ruleOf (drop o p) (nodeAt g n) n 0)
 
--- policies of one PN each: those of node n at these places
+-- policies of one PN each: those of node n at these offsets
 unfoldable pub rulesAt : List Node → List ℕ → ℕ → List ℕ → List Policy
 rulesAt g p n [] = []
 rulesAt g p n (o ∷ os) = ofRules (ruleAt g p n o ∷ []) ∷ rulesAt g p n os
 
--- the places that the row of node n has
-unfoldable pub placesIn : List ℕ → ℕ → List ℕ
-placesIn t n = take (getD t (rowSlot n) 0) (drop (placeSlot n 0) t)
+-- the offsets that the row of node n has
+unfoldable pub offsetsIn : List ℕ → ℕ → List ℕ
+offsetsIn t n = take (getD t (rowSlot n) 0) (drop (offsetSlot n 0) t)
 
 -- those of k nodes from n on
 unfoldable pub notedFrom : List Node → List ℕ → List ℕ → ℕ → ℕ → List Policy
 notedFrom g p t n zero = []
-notedFrom g p t n (suc k) = rulesAt g p n (placesIn t n) ++ notedFrom g p t (n + 1) k
+notedFrom g p t n (suc k) = rulesAt g p n (offsetsIn t n) ++ notedFrom g p t (n + 1) k
 
 -- of all nodes
 unfoldable pub noted : List Node → List ℕ → List ℕ → List Policy
@@ -84,13 +84,13 @@ pub record RuleAt (g : List Node) (p : List ℕ) (n o : ℕ) : Type 0 where
   pub end : ℕ
   pub reads : ruleOf (drop o p) (nodeAt g n) n 0 ≡ got (ruleAt g p n o) end
 
--- one is read at each of the first so many places
-pub record RulesAt (g : List Node) (p : List ℕ) (n count : ℕ) (places : List ℕ) : Type 0 where
+-- one is read at each of the first so many offsets
+pub record RulesAt (g : List Node) (p : List ℕ) (n count : ℕ) (offsets : List ℕ) : Type 0 where
   pub few : count ≤ mostPolicies
-  pub long : count ≤ length places
-  pub each : (r : ℕ) → r < count → RuleAt g p n (getD places r 0)
+  pub long : count ≤ length offsets
+  pub each : (r : ℕ) → r < count → RuleAt g p n (getD offsets r 0)
 
 -- the rows t note PN of the file p under the schema file s
 pub record Noted (s p t : List ℕ) : Type 0 where
   pub long : rowSlot (length (schemaOf s)) ≤ length t
-  pub each : (n : ℕ) → n < length (schemaOf s) → RulesAt (schemaOf s) p n (getD t (rowSlot n) 0) (drop (placeSlot n 0) t)
+  pub each : (n : ℕ) → n < length (schemaOf s) → RulesAt (schemaOf s) p n (getD t (rowSlot n) 0) (drop (offsetSlot n 0) t)

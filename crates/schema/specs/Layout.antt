@@ -46,10 +46,10 @@ masksOf (Number lo hi ∷ vs) = masksOf vs
 masksOf (Listed size ∷ vs) = masksOf vs + 1
 
 -- where the mask of variable k stands, where the conditions begin at w; 0 for a number and for none
-unfoldable pub maskOffset : List Variable → ℕ → ℕ → ℕ
-maskOffset [] w k = 0
-maskOffset (v ∷ vs) w zero = cond (isNumber v) 0 w
-maskOffset (v ∷ vs) w (suc k) = maskOffset vs (w + span v) k
+unfoldable pub maskSkip : List Variable → ℕ → ℕ → ℕ
+maskSkip [] w k = 0
+maskSkip (v ∷ vs) w zero = cond (isNumber v) 0 w
+maskSkip (v ∷ vs) w (suc k) = maskSkip vs (w + span v) k
 
 -- how many bits a mask has above the values of its variable; 0 for a number and for none
 unfoldable pub spareOf : Variable → ℕ
@@ -69,8 +69,8 @@ lengthSlot n = 16 * n + 5
 abbrev pub masksSlot : ℕ → ℕ
 masksSlot n = 16 * n + 6
 
-abbrev pub offsetSlot : ℕ → ℕ → ℕ
-offsetSlot n k = 16 * n + 8 + k
+abbrev pub skipSlot : ℕ → ℕ → ℕ
+skipSlot n k = 16 * n + 8 + k
 
 abbrev pub spareSlot : ℕ → ℕ → ℕ
 spareSlot n k = 16 * n + 12 + k
@@ -79,7 +79,7 @@ spareSlot n k = 16 * n + 12 + k
 pub record NodeLaid (x : Node) (n : ℕ) (t : List ℕ) : Type 0 where
   pub length-is : getD t (lengthSlot n) 0 ≡ ruleLength x
   pub masks : getD t (masksSlot n) 0 ≡ masksOf (x .variables)
-  pub offset : (k : ℕ) → k < 4 → getD t (offsetSlot n k) 0 ≡ maskOffset (x .variables) (rankCount x) k
+  pub skip : (k : ℕ) → k < 4 → getD t (skipSlot n k) 0 ≡ maskSkip (x .variables) (rankCount x) k
   pub spare : (k : ℕ) → k < 4 → getD t (spareSlot n k) 0 ≡ spareAt (x .variables) k
 
 pub record Laid (g : List Node) (t : List ℕ) : Type 0 where
