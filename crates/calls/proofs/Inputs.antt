@@ -5,7 +5,7 @@ use mathlib.Core.Bool.{true}
 use mathlib.Core.List.{List}
 use Prim.Native.Nat.{ℕ}
 use Rattle.fields.specs.Reading.{got}
-use Rattle.fields.specs.Answers.{stepOf, refusal, judged}
+use Rattle.fields.specs.Answers.{refusal, judged}
 use Rattle.fields.specs.Outcomes.{Outcome, Did, leaving}
 use Rattle.fields.specs.declared.Answer.{Answer}
 use Rattle.fields.specs.declared.Step.{Step}
@@ -14,7 +14,8 @@ use Rattle.fields.proofs.Refusals.{ofFile}
 use Rattle.fields.proofs.Judged.{judged-all, judged-bad, judged-bad-did, did-same}
 use Rattle.schema.specs.Schema.{Node, schema, schemaOf}
 use Rattle.schema.proofs.Refusals.{schema-numbered}
-use Rattle.schema.proofs.Accepted.{schema-got}
+use Rattle.schema.specs.Table.{Accepted, Tabled, SetsIn, YieldsSchema}
+use Rattle.schema.proofs.Accepted.{schema-got, accepted-by}
 use Rattle.policies.specs.Policies.{Policy, policies}
 use Rattle.policies.specs.Pass.{pass, forced}
 use Rattle.policies.proofs.Within.{policies-numbered, pass-numbered}
@@ -38,20 +39,29 @@ module _ {B : Type 0} (P : B → Type 0) (refuse : ℕ → ℕ → ℕ → B) (r
 
 -- ---- the schema, by its reader's answer
 
-module _ (s : List ℕ) {x : Step} (e : x ≡ stepOf (schema s)) where
+module _ (s t u : List ℕ) {x : Step} (w : YieldsSchema s x t u) where
   module _ {n o : ℕ} (h : x ≡ Bad n o) where
     pub schema-bad : (k : List Node → Answer) {r : Answer} → r ≡ refusal n 1 o → r ≡ withSchema refusal s k
     unfolding withSchema
-    schema-bad k i = judged-bad 1 (schema s) e h k i
+    schema-bad k i = judged-bad 1 (schema s) (w .answer) h k i
 
     pub schema-bad-did : (out : List ℕ) (k : List Node → Outcome) {r : Answer} → r ≡ refusal n 1 o → Did (withSchema (leaving out) s k) r out
     unfolding withSchema
-    schema-bad-did out k i = judged-bad-did 1 (schema s) e h out k i
+    schema-bad-did out k i = judged-bad-did 1 (schema s) (w .answer) h out k i
 
   module _ {q : ℕ} (h : x ≡ Next q) where
+    pub schema-accepted : Accepted s
+    schema-accepted = accepted-by s (w .answer) h
+
+    pub schema-tabled : Tabled s t
+    schema-tabled = w .tabled schema-accepted
+
+    pub schema-sets : SetsIn s u
+    schema-sets = w .sets schema-accepted
+
     schema-read : {B : Type 0} (refuse : ℕ → ℕ → ℕ → B) (k : List Node → B) → withSchema refuse s k ≡ k (schemaOf s)
     unfolding withSchema judged
-    schema-read refuse k = rw (schema-got s e h)
+    schema-read refuse k = rw (schema-got s (w .answer) h)
 
     pub schema-ok : (k : List Node → Answer) {r : Answer} → r ≡ k (schemaOf s) → r ≡ withSchema refusal s k
     schema-ok k d = d ∙ sym (schema-read refusal k)

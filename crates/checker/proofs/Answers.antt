@@ -6,15 +6,17 @@ use mathlib.Core.Option.{Option, none, some}
 use Prim.Native.Nat.{ℕ}
 use native.Mathlib.Omega.{arith}
 use Rattle.fields.specs.declared.Answer.{Answer}
-use Rattle.fields.specs.declared.Step.{Step}
-use Rattle.fields.specs.declared.Step.the-variants.{Next, Bad}
 use Rattle.fields.specs.Answers.{stepOf, success, refusal, judged}
 use Rattle.fields.proofs.Judged.{judged-bad}
 use Rattle.schema.specs.Schema.{Node}
 use Rattle.policies.specs.Policies.{Policy}
+use Rattle.instances.specs.Instance.{Entry}
 use Rattle.instances.specs.File.{instance}
-use Rattle.lookup.specs.Lookup.{instanceOf}
-use Rattle.lookup.proofs.Lookup.{readable-by}
+use Rattle.instances.specs.Plan.{planned, nodesOf, planOf}
+use Rattle.instance_reader.specs.Decoded.{YieldsInstance}
+use Rattle.instance_reader.specs.declared.InstanceRead.{InstanceRead}
+use Rattle.instance_reader.specs.declared.InstanceRead.the-variants.{Instance, NoInstance}
+use Rattle.instance_reader.proofs.Decoded.{AnInstance, no-instance, an-instance}
 use Rattle.model.specs.Comparing.{forbidden}
 use Rattle.calls.specs.Calls.{permitted, checkingInForce}
 use Rattle.checker.specs.Checks.{forbiddenIn}
@@ -38,16 +40,25 @@ module _ (o : Option ℕ) {x : Forbidden} (e : x ≡ forbiddenIn o) where
       go none h = absurd (let z : _≡_ {A = ℕ} 0 1 = cc in omega arith)
       go (some r) h = let z : q ≡ r = cc in ap (refusal 18 4) z
 
-module _ (g : List Node) (ps : List Policy) (s : List ℕ) {f : Step} (e : f ≡ stepOf (instance g s)) {r : Answer} where
-  pub instance-bad : {n o : ℕ} → f ≡ Bad n o → r ≡ refusal n 4 o → r ≡ checkingInForce g ps s
+pub instance-nodes : (g : List Node) (s choices bits : List ℕ) {y : InstanceRead} {m : ℕ} → YieldsInstance g s choices bits y → y ≡ Instance m → m ≡ nodesOf (planned g (planOf g choices bits))
+instance-nodes g s choices bits w h = let i = an-instance g s choices bits w h in i .nodes ∙ ap nodesOf (sym (i .holds))
+
+module _ (g : List Node) (ps : List Policy) (s choices bits : List ℕ) {y : InstanceRead} (w : YieldsInstance g s choices bits y) where
+  pub instance-bad : {r : Answer} {n o : ℕ} → y ≡ NoInstance n o → r ≡ refusal n 4 o → r ≡ checkingInForce g ps s
   unfolding checkingInForce
-  instance-bad h i = judged-bad 4 (instance g s) e h _ i
+  instance-bad h i = judged-bad 4 (instance g s) (ap stepOf (sym (no-instance g s choices bits w h))) refl _ i
 
-  module _ {q : ℕ} (h : f ≡ Next q) {x : Forbidden} (w : x ≡ forbiddenIn (forbidden g ps (instanceOf g s))) where
-    pub instance-permitted : x ≡ Nowhere → r ≡ success 0 → r ≡ checkingInForce g ps s
-    unfolding checkingInForce judged
-    instance-permitted y i = rw (readable-by g s e h .reads) (i ∙ permitted-none (forbidden g ps (instanceOf g s)) w y)
+  module _ {m : ℕ} (h : y ≡ Instance m) {x : Forbidden} (e : x ≡ forbiddenIn (forbidden g ps (planned g (planOf g choices bits)))) where
+    read : AnInstance g s choices bits m
+    read = an-instance g s choices bits w h
 
-    pub instance-forbidden : {o : ℕ} → x ≡ At o → r ≡ refusal 18 4 o → r ≡ checkingInForce g ps s
+    told : x ≡ forbiddenIn (forbidden g ps (read .i))
+    told = e ∙ ap (λ (i : List Entry). forbiddenIn (forbidden g ps i)) (read .holds)
+
+    pub instance-permitted : {r : Answer} → x ≡ Nowhere → r ≡ success 0 → r ≡ checkingInForce g ps s
     unfolding checkingInForce judged
-    instance-forbidden y i = rw (readable-by g s e h .reads) (i ∙ permitted-some (forbidden g ps (instanceOf g s)) w y)
+    instance-permitted k i = rw (read .reads) (i ∙ permitted-none (forbidden g ps (read .i)) told k)
+
+    pub instance-forbidden : {r : Answer} {o : ℕ} → x ≡ At o → r ≡ refusal 18 4 o → r ≡ checkingInForce g ps s
+    unfolding checkingInForce judged
+    instance-forbidden k i = rw (read .reads) (i ∙ permitted-some (forbidden g ps (read .i)) told k)

@@ -1,11 +1,21 @@
 -- What the parts of the comparison start from.
 -- For the contracts of functions that no other crate calls.
 use Prim.Native.Nat.{ℕ}
+use mathlib.Core.Path.{_≡_}
+use mathlib.Core.Bool.{Bool}
 use mathlib.Core.List.{List}
-use Rattle.policies.specs.Index.{IndexIn}
-use Rattle.policies.specs.Pass.{Selected}
+use Rattle.schema.specs.Schema.{Node}
+use Rattle.policies.specs.Policies.{Policy}
+use Rattle.instances.specs.Instance.{Entry}
+use Rattle.instances.proofs.IsInstance.{IsInstance}
+use Rattle.instance_reader.specs.Decoded.{choicesOf}
+use Rattle.model.specs.Order.{asGood}
+use Rattle.model.specs.Comparing.{compared}
 
--- the index of the file p, and some of its policies
-pub record Ranking (schema p index list : List ℕ) (rows : ℕ) : Type 0 where
-  pub index-is : IndexIn schema p index
-  pub listed : Selected schema p list rows
+-- whether the first of two instances with these choices is at least as good as the second
+pub record YieldsAsGood (g : List Node) (ps : List Policy) (first second : List ℕ) (r : Bool) : Type 0 where
+  pub is : (i j : List Entry) → IsInstance g i → IsInstance g j → first ≡ choicesOf i → second ≡ choicesOf j → r ≡ asGood g ps i j
+
+-- the verdict on two instances with these choices
+pub record YieldsVerdict (g : List Node) (ps : List Policy) (first second : List ℕ) (r : ℕ) : Type 0 where
+  pub is : (i j : List Entry) → IsInstance g i → IsInstance g j → first ≡ choicesOf i → second ≡ choicesOf j → r ≡ compared g ps i j

@@ -1,36 +1,40 @@
 -- The loop over the offsets, for one variable: the conditions from row r on are left.
--- Rests on the definition of what they leave.
+-- Rests on the definition of what they leave, and on the offsets that are left, in Offsets.
 use mathlib.Core.Path.{_≡_, refl, ap, ap₂, sym, _∙_}
 use mathlib.Core.List.{List}
-use Prim.Native.Nat.{ℕ, _+_, _≤_, _<_, _^_}
+use Prim.Native.Nat.{ℕ, _+_, _-_, _≤_, _<_, _^_}
 use native.Mathlib.Omega.{arith}
-use native.Mathlib.Numerals.{add-one}
-use lib.ListN.{length, getD, take, drop, drop-of-length-le}
-use lib.Seq.{drop-cons, getD-take, length-take-le}
+use lib.ListN.{length, getD, take, drop, length-drop}
 use lib.Bits.{bitAnd}
 use lib.IntN.{ℤ}
 use lib.Signed.{mag}
-use mir.Syntax.{w32, w64}
-use mir.Val.{Fits, toZ, ofZ, SFits}
+use mir.Syntax.{w32}
+use mir.Val.{toZ, ofZ, SFits}
 use mir.ValLaws.{toZ-ofZ}
 use Rattle.fields.specs.Reading.{be, signed}
 use Rattle.numbers.specs.Bits.{ones}
 use Rattle.numbers.specs.Signs.{maxZ, minZ}
 use Rattle.policies.specs.Policies.{Condition, range, mask}
+use Rattle.policies.proofs.Places.{rest}
 use Rattle.model.specs.Reconciling.{both}
 use Rattle.conditions.specs.Rules.{BytesAt, rangeAt, maskAt, narrowedBy}
+use Rattle.conditions.proofs.Offsets.{some-left, none-left}
+
+-- the stretch from offset o on, as a callee is lent it
+abbrev pub stretch : List ℕ → ℕ → List ℕ
+stretch p o = take (length p - o) (drop o p)
 
 -- a bound is what its bits say
 pub kept : (z : ℤ) → mag z < 2 ^ 31 → toZ w32 (ofZ w32 z) ≡ z
 kept z f = toZ-ofZ w32 z (record { sfits = f })
 
--- there is room for the condition
-module _ (p : List ℕ) (rows : ℕ) (offsets : List ℕ) (skip r k : ℕ) (b : BytesAt p rows offsets (skip + k)) (h : r < rows) where
-  pub condition-room : getD offsets r 0 + skip + k ≤ length p
-  condition-room = omega (arith, b .each r h)
+-- the stretch of row r begins inside the file, and has the condition
+module _ (p : List ℕ) (count : ℕ) (offsets : List ℕ) (skip r k : ℕ) (b : BytesAt p count offsets (skip + k)) (h : r < count) where
+  pub stretch-inside : getD offsets r 0 ≤ length p
+  stretch-inside = omega (arith, b .each r h)
 
-  pub condition-fits : length p < 2 ^ 64 → Fits w64 (getD offsets r 0 + skip)
-  condition-fits m = record { fits = omega (arith, condition-room) }
+  pub stretch-room : skip + k ≤ length (stretch p (getD offsets r 0))
+  stretch-room = rw (rest p (getD offsets r 0)) (omega (arith, b .each r h, length-drop (getD offsets r 0) p))
 
 -- a range as the code narrows it
 pub narrowed : (p : List ℕ) (at : ℕ) (a b : ℤ) {x y u v : ℤ} → x ≡ signed (be 4 p at) → mag x < 2 ^ 31 → y ≡ signed (be 4 p (at + 4)) → mag y < 2 ^ 31 → mag a < 2 ^ 31 → mag b < 2 ^ 31
@@ -43,53 +47,54 @@ narrowed p at a b {x} {y} {u} {v} ex fx ey fy fa fb eu fu ev fv =
     (kept v fv ∙ ev ∙ ap₂ minZ (kept b fb) (kept y fy ∙ ey))
 
 -- what the conditions from row r on leave of c is what all leave of start
-pub record Narrowing (f : ℕ → Condition) (rows : ℕ) (offsets : List ℕ) (start : Condition) (r : ℕ) (c : Condition) : Type 0 where
-  pub left : narrowedBy f (drop r (take rows offsets)) c ≡ narrowedBy f (take rows offsets) start
+pub record Narrowing (f : ℕ → Condition) (count : ℕ) (offsets : List ℕ) (start : Condition) (r : ℕ) (c : Condition) : Type 0 where
+  pub left : narrowedBy f (drop r (take count offsets)) c ≡ narrowedBy f (take count offsets) start
 
-pub narrowing-init : (f : ℕ → Condition) (rows : ℕ) (offsets : List ℕ) (c : Condition) → Narrowing f rows offsets c 0 c
-narrowing-init f rows offsets c = record { left = refl }
+pub narrowing-init : (f : ℕ → Condition) (count : ℕ) (offsets : List ℕ) (c : Condition) → Narrowing f count offsets c 0 c
+narrowing-init f count offsets c = record { left = refl }
 
-pub mask-init : (f : ℕ → Condition) (rows : ℕ) (offsets : List ℕ) (size : ℕ) {m : ℕ} → m ≡ ones size → Narrowing f rows offsets (mask (ones size)) 0 (mask m)
-mask-init f rows offsets size e = record { left = ap (λ (x : ℕ). narrowedBy f (take rows offsets) (mask x)) e }
+pub mask-init : (f : ℕ → Condition) (count : ℕ) (offsets : List ℕ) (size : ℕ) {m : ℕ} → m ≡ ones size → Narrowing f count offsets (mask (ones size)) 0 (mask m)
+mask-init f count offsets size e = record { left = ap (λ (x : ℕ). narrowedBy f (take count offsets) (mask x)) e }
 
-module _ (f : ℕ → Condition) (rows : ℕ) (offsets : List ℕ) (start : Condition) (r : ℕ) {c : Condition} (w : Narrowing f rows offsets start r c) (l : rows ≤ length offsets) where
-  pub narrowing-step : {d : Condition} → r < rows → d ≡ both c (f (getD offsets r 0)) → Narrowing f rows offsets start (r + 1) d
+module _ (f : ℕ → Condition) (count : ℕ) (offsets : List ℕ) (start : Condition) (r : ℕ) {c : Condition} (w : Narrowing f count offsets start r c) (l : count ≤ length offsets) where
+  pub narrowing-step : {d : Condition} → r < count → d ≡ both c (f (getD offsets r 0)) → Narrowing f count offsets start (r + 1) d
   unfolding narrowedBy
   narrowing-step {d} h e =
-      let os = take rows offsets in
       record {
         left =
-            ap (narrowedBy f (drop (r + 1) os)) (e ∙ ap (λ (o : ℕ). both c (f o)) (sym (getD-take rows offsets r 0 h)))
-            ∙ ap (λ (i : ℕ). narrowedBy f (drop i os) (both c (f (getD os r 0)))) (add-one r)
-            ∙ sym (ap (λ (l : List ℕ). narrowedBy f l c) (drop-cons os r 0 (omega (arith, length-take-le rows offsets l))))
+            ap (narrowedBy f (drop (r + 1) (take count offsets))) e
+            ∙ sym (ap (λ (os : List ℕ). narrowedBy f os c) (some-left count offsets r l h))
             ∙ w .left;
       }
 
-  pub narrowing-exit : rows ≤ r → c ≡ narrowedBy f (take rows offsets) start
+  pub narrowing-exit : count ≤ r → c ≡ narrowedBy f (take count offsets) start
   unfolding narrowedBy
-  narrowing-exit h =
-      sym (ap (λ (l : List ℕ). narrowedBy f l c) (drop-of-length-le (take rows offsets) {i = r} (omega (arith, length-take-le rows offsets l)))) ∙ w .left
+  narrowing-exit h = sym (ap (λ (os : List ℕ). narrowedBy f os c) (none-left count offsets r l h)) ∙ w .left
 
--- a number's bounds
-pub range-step : (p : List ℕ) (skip rows : ℕ) (offsets : List ℕ) (start : Condition) (r : ℕ) {k : ℕ} {c d : Condition} → Narrowing (rangeAt p skip) rows offsets start r c → BytesAt p rows offsets k → r < rows
-    → d ≡ both c (range (signed (be 4 p (getD offsets r 0 + skip))) (signed (be 4 p (getD offsets r 0 + skip + 4)))) → Narrowing (rangeAt p skip) rows offsets start (r + 1) d
+-- a number's bounds, as the stretch of its PN has them
+pub range-step : (p : List ℕ) (skip count : ℕ) (offsets : List ℕ) (start : Condition) (r : ℕ) {k : ℕ} {c d : Condition} → Narrowing (rangeAt p skip) count offsets start r c → BytesAt p count offsets k → r < count
+    → d ≡ both c (range (signed (be 4 (stretch p (getD offsets r 0)) skip)) (signed (be 4 (stretch p (getD offsets r 0)) (skip + 4)))) → Narrowing (rangeAt p skip) count offsets start (r + 1) d
 unfolding rangeAt
-range-step p skip rows offsets start r w b h e = narrowing-step (rangeAt p skip) rows offsets start r w (b .long) h e
+range-step p skip count offsets start r {c = c} w b h e =
+    narrowing-step (rangeAt p skip) count offsets start r w (b .long) h
+    (e ∙ ap (λ (l : List ℕ). both c (range (signed (be 4 l skip)) (signed (be 4 l (skip + 4))))) (rest p (getD offsets r 0)))
 
 -- those that the code begins with
-pub range-exit : (p : List ℕ) (skip rows : ℕ) (offsets : List ℕ) (r : ℕ) {k : ℕ} {least most : ℤ} {c : Condition} → BytesAt p rows offsets k → SFits w32 least → SFits w32 most
-    → Narrowing (rangeAt p skip) rows offsets (range (toZ w32 (ofZ w32 least)) (toZ w32 (ofZ w32 most))) r c → rows ≤ r
-    → c ≡ narrowedBy (rangeAt p skip) (take rows offsets) (range least most)
-range-exit p skip rows offsets r {least = least} {most} b fl fm w h =
-    narrowing-exit (rangeAt p skip) rows offsets (range (toZ w32 (ofZ w32 least)) (toZ w32 (ofZ w32 most))) r w (b .long) h
-    ∙ ap (narrowedBy (rangeAt p skip) (take rows offsets)) (ap₂ range (toZ-ofZ w32 least fl) (toZ-ofZ w32 most fm))
+pub range-exit : (p : List ℕ) (skip count : ℕ) (offsets : List ℕ) (r : ℕ) {k : ℕ} {least most : ℤ} {c : Condition} → BytesAt p count offsets k → SFits w32 least → SFits w32 most
+    → Narrowing (rangeAt p skip) count offsets (range (toZ w32 (ofZ w32 least)) (toZ w32 (ofZ w32 most))) r c → count ≤ r
+    → c ≡ narrowedBy (rangeAt p skip) (take count offsets) (range least most)
+range-exit p skip count offsets r {least = least} {most} b fl fm w h =
+    narrowing-exit (rangeAt p skip) count offsets (range (toZ w32 (ofZ w32 least)) (toZ w32 (ofZ w32 most))) r w (b .long) h
+    ∙ ap (narrowedBy (rangeAt p skip) (take count offsets)) (ap₂ range (toZ-ofZ w32 least fl) (toZ-ofZ w32 most fm))
 
 -- a mask
-pub mask-step : (p : List ℕ) (skip rows : ℕ) (offsets : List ℕ) (start : Condition) (r : ℕ) {k m x : ℕ} → Narrowing (maskAt p skip) rows offsets start r (mask m) → BytesAt p rows offsets k → r < rows
-    → x ≡ be 4 p (getD offsets r 0 + skip) → Narrowing (maskAt p skip) rows offsets start (r + 1) (mask (bitAnd m x))
+pub mask-step : (p : List ℕ) (skip count : ℕ) (offsets : List ℕ) (start : Condition) (r : ℕ) {k m x : ℕ} → Narrowing (maskAt p skip) count offsets start r (mask m) → BytesAt p count offsets k → r < count
+    → x ≡ be 4 (stretch p (getD offsets r 0)) skip → Narrowing (maskAt p skip) count offsets start (r + 1) (mask (bitAnd m x))
 unfolding maskAt both
-mask-step p skip rows offsets start r {m = m} w b h e = narrowing-step (maskAt p skip) rows offsets start r w (b .long) h (ap (λ (y : ℕ). mask (bitAnd m y)) e)
+mask-step p skip count offsets start r {m = m} w b h e =
+    narrowing-step (maskAt p skip) count offsets start r w (b .long) h
+    (ap (λ (y : ℕ). mask (bitAnd m y)) (e ∙ ap (λ (l : List ℕ). be 4 l skip) (rest p (getD offsets r 0))))
 
-pub mask-exit : (p : List ℕ) (skip rows : ℕ) (offsets : List ℕ) (start : Condition) (r : ℕ) {k : ℕ} {c : Condition} → Narrowing (maskAt p skip) rows offsets start r c → BytesAt p rows offsets k → rows ≤ r
-    → c ≡ narrowedBy (maskAt p skip) (take rows offsets) start
-mask-exit p skip rows offsets start r w b h = narrowing-exit (maskAt p skip) rows offsets start r w (b .long) h
+pub mask-exit : (p : List ℕ) (skip count : ℕ) (offsets : List ℕ) (start : Condition) (r : ℕ) {k : ℕ} {c : Condition} → Narrowing (maskAt p skip) count offsets start r c → BytesAt p count offsets k → count ≤ r
+    → c ≡ narrowedBy (maskAt p skip) (take count offsets) start
+mask-exit p skip count offsets start r w b h = narrowing-exit (maskAt p skip) count offsets start r w (b .long) h

@@ -10,7 +10,7 @@ use native.Mathlib.Numerals.{add-one}
 use borrow.Author.Tests.{eqb-true, eq-eqb, ne-eqb}
 use lib.Dec.{eqb}
 use lib.ListN.{length, getD, take, drop, drop-of-length-le}
-use lib.Seq.{drop-cons}
+use lib.Seq.{drop-cons, ext-getD}
 use lib.IntN.{ℤ}
 use lib.Signed.{mag}
 use mir.Syntax.{w32, w64}
@@ -26,11 +26,13 @@ use Rattle.policies.specs.Policies.{Condition, range, mask, Policy}
 use Rattle.model.specs.Satisfaction.{every}
 use Rattle.model.specs.Reconciling.{own, both, restrictAll, combined}
 use Rattle.model.proofs.Values.{combined-at}
-use Rattle.conditions.specs.Held.{four, recordOf}
-use Rattle.conditions.specs.Rules.{rulesAt, RulesAt, rangeAt, narrowedBy, fourNumbers}
+use Rattle.conditions.specs.Least.{rangesIn}
+use Rattle.policies.specs.Rows.{rulesAt, RulesAt}
+use Rattle.conditions.specs.Rules.{BytesAt, rangeAt, narrowedBy, fourNumbers}
 use Rattle.conditions.specs.declared.Range.{Range}
 use Rattle.conditions.proofs.Rules.{ConditionIn, ranges-bytes, ranges-left}
-use Rattle.conditions.proofs.Narrowing.{Narrowing, range-step, narrowing-exit, kept}
+use Rattle.conditions.proofs.Least.{combined-length}
+use Rattle.conditions.proofs.Narrowing.{Narrowing, stretch, stretch-inside, stretch-room, range-step, narrowing-exit, kept}
 
 -- ---- the test
 
@@ -78,15 +80,15 @@ module _ (vs : List Variable) (k : ℕ) (w : Testing vs k) where
 pub four-told : (vs : List Variable) {x : Bool} → x ≡ fourNumbers vs → x ≡ true → fourNumbers vs ≡ true
 four-told vs e t = sym e ∙ t
 
-four-length : (vs : List Variable) → fourNumbers vs ≡ true → length vs ≡ 4
+pub four-length : (vs : List Variable) → fourNumbers vs ≡ true → length vs ≡ 4
 unfolding fourNumbers
 four-length vs f = eqb-true (length vs) 4 (and-true (eqb (length vs) 4) (every isNumber vs) f .0)
 
-every-number : (vs : List Variable) → fourNumbers vs ≡ true → every isNumber vs ≡ true
+pub every-number : (vs : List Variable) → fourNumbers vs ≡ true → every isNumber vs ≡ true
 unfolding fourNumbers
 every-number vs f = and-true (eqb (length vs) 4) (every isNumber vs) f .1
 
-number-at : (vs : List Variable) (k : ℕ) → every isNumber vs ≡ true → k < length vs → isNumber (getD vs k noVariable) ≡ true
+pub number-at : (vs : List Variable) (k : ℕ) → every isNumber vs ≡ true → k < length vs → isNumber (getD vs k noVariable) ≡ true
 number-at [] k e h = absurd (omega arith)
 number-at (v ∷ vs) zero e h = and-true (isNumber v) (every isNumber vs) e .0
 number-at (v ∷ vs) (suc k) e h = number-at vs k (and-true (isNumber v) (every isNumber vs) e .1) (omega arith)
@@ -121,44 +123,42 @@ own-other vs k f h e i = never (sym (ap isNumber (sym e ∙ i)) ∙ number-at vs
 
 -- the offsets from row r on are left for variable k, which has its place in cs
 abbrev Left : List Node → List ℕ → ℕ → ℕ → List ℕ → ℕ → ℕ → List Condition → ℕ → Type 0
-Left g p n rows offsets skip r cs k = Narrowing (rangeAt p (skip + 8 * k)) rows offsets (own (variableAt g n k)) r (getD cs k (mask 0))
+Left g p n count offsets skip r cs k = Narrowing (rangeAt p (skip + 8 * k)) count offsets (own (variableAt g n k)) r (getD cs k (mask 0))
 
-below-four : (P : ℕ → Type 0) → P 0 → P 1 → P 2 → P 3 → (k : ℕ) → k < 4 → P k
+pub below-four : (P : ℕ → Type 0) → P 0 → P 1 → P 2 → P 3 → (k : ℕ) → k < 4 → P k
 below-four P a b c d zero h = a
 below-four P a b c d (suc zero) h = b
 below-four P a b c d (suc (suc zero)) h = c
 below-four P a b c d (suc (suc (suc zero))) h = d
 below-four P a b c d (suc (suc (suc (suc k)))) h = absurd (omega arith)
 
-pub record Four (g : List Node) (p : List ℕ) (n rows : ℕ) (offsets : List ℕ) (skip r : ℕ) (w x y z : Condition) : Type 0 where
-  pub rules : RulesAt g p n rows offsets
+pub record Four (g : List Node) (p : List ℕ) (n count : ℕ) (offsets : List ℕ) (skip r : ℕ) (w x y z : Condition) : Type 0 where
+  pub rules : RulesAt g p n count offsets
   pub numbers : fourNumbers (nodeAt g n .variables) ≡ true
   pub first : AtMost 8 (rankCount (nodeAt g n)) skip
-  pub small : length p < 2 ^ 64
-  pub each : (k : ℕ) → k < 4 → Left g p n rows offsets skip r (w ∷ x ∷ y ∷ z ∷ []) k
+  pub each : (k : ℕ) → k < 4 → Left g p n count offsets skip r (w ∷ x ∷ y ∷ z ∷ []) k
 
-pub four-init : (g : List Node) (p : List ℕ) (n rows : ℕ) (offsets : List ℕ) {skip : ℕ} {w x y z : Condition} → RulesAt g p n rows offsets
-    → fourNumbers (nodeAt g n .variables) ≡ true → AtMost 8 (rankCount (nodeAt g n)) skip → length p < 2 ^ 64
+pub four-init : (g : List Node) (p : List ℕ) (n count : ℕ) (offsets : List ℕ) {skip : ℕ} {w x y z : Condition} → RulesAt g p n count offsets
+    → fourNumbers (nodeAt g n .variables) ≡ true → AtMost 8 (rankCount (nodeAt g n)) skip
     → w ≡ own (variableAt g n 0) → x ≡ own (variableAt g n 1) → y ≡ own (variableAt g n 2) → z ≡ own (variableAt g n 3)
-    → Four g p n rows offsets skip 0 w x y z
-four-init g p n rows offsets {skip} {w} {x} {y} {z} f t m l ew ex ey ez =
+    → Four g p n count offsets skip 0 w x y z
+four-init g p n count offsets {skip} {w} {x} {y} {z} f t m ew ex ey ez =
     record {
       rules = f;
       numbers = t;
       first = m;
-      small = l;
-      each = below-four (Left g p n rows offsets skip 0 (w ∷ x ∷ y ∷ z ∷ [])) (start 0 ew) (start 1 ex) (start 2 ey) (start 3 ez);
+      each = below-four (Left g p n count offsets skip 0 (w ∷ x ∷ y ∷ z ∷ [])) (start 0 ew) (start 1 ex) (start 2 ey) (start 3 ez);
     }
   where
-    start : (k : ℕ) {c : Condition} → c ≡ own (variableAt g n k) → Narrowing (rangeAt p (skip + 8 * k)) rows offsets (own (variableAt g n k)) 0 c
-    start k e = record { left = ap (narrowedBy (rangeAt p (skip + 8 * k)) (take rows offsets)) e }
+    start : (k : ℕ) {c : Condition} → c ≡ own (variableAt g n k) → Narrowing (rangeAt p (skip + 8 * k)) count offsets (own (variableAt g n k)) 0 c
+    start k e = record { left = ap (narrowedBy (rangeAt p (skip + 8 * k)) (take count offsets)) e }
 
-module _ (g : List Node) (p : List ℕ) (n rows : ℕ) (offsets : List ℕ) (skip r : ℕ) {w x y z : Condition} (u : Four g p n rows offsets skip r w x y z) where
+module _ (g : List Node) (p : List ℕ) (n count : ℕ) (offsets : List ℕ) (skip r : ℕ) {w x y z : Condition} (u : Four g p n count offsets skip r w x y z) where
   abbrev vs : List Variable
   vs = nodeAt g n .variables
 
   abbrev qs : List Policy
-  qs = rulesAt g p n (take rows offsets)
+  qs = rulesAt g p n (take count offsets)
 
   place : (k : ℕ) → k < 4 → ConditionIn g n k (skip + 8 * k) true
   unfolding offsetOf
@@ -171,82 +171,79 @@ module _ (g : List Node) (p : List ℕ) (n rows : ℕ) (offsets : List ℕ) (ski
         place = omega (arith, u .first .is, spans-numbers vs k e (omega arith));
       }
 
-  module _ (h : r < rows) where
-    room : getD offsets r 0 + skip + 32 ≤ length p
-    room = omega (arith, ranges-bytes g p n rows offsets (u .rules) 3 (skip + 8 * 3) (place 3 (omega arith)) .each r h)
+  module _ (h : r < count) where
+    abbrev here-on : List ℕ
+    here-on = stretch p (getD offsets r 0)
 
-    pub first-room : getD offsets r 0 + skip + 8 ≤ length p
+    last : BytesAt p count offsets (skip + 24 + 8)
+    last = ranges-bytes g p n count offsets (u .rules) 3 (skip + 24) (place 3 (omega arith))
+
+    pub four-inside : getD offsets r 0 ≤ length p
+    four-inside = stretch-inside p count offsets (skip + 24) r 8 last h
+
+    room : skip + 24 + 8 ≤ length here-on
+    room = stretch-room p count offsets (skip + 24) r 8 last h
+
+    pub first-room : skip + 8 ≤ length here-on
     first-room = omega (arith, room)
 
-    pub next-room : (k : ℕ) → k ≤ 24 → getD offsets r 0 + skip + k + 8 ≤ length p
+    pub next-room : (k : ℕ) → k ≤ 24 → skip + k + 8 ≤ length here-on
     next-room k l = omega (arith, room)
 
-    pub first-fits : Fits w64 (getD offsets r 0 + skip)
-    first-fits = record { fits = omega (arith, room, u .small) }
+    pub next-fits : (k : ℕ) → k ≤ 24 → Fits w64 (skip + k)
+    next-fits k l = record { fits = omega (arith, u .first .most) }
 
-    pub next-fits : (k : ℕ) → k ≤ 24 → Fits w64 (getD offsets r 0 + skip + k)
-    next-fits k l = record { fits = omega (arith, room, u .small) }
-
-    turn : (k at : ℕ) → k < 4 → at ≡ getD offsets r 0 + skip + 8 * k → {c d : Condition} → Narrowing (rangeAt p (skip + 8 * k)) rows offsets (own (variableAt g n k)) r c
-        → d ≡ both c (range (signed (be 4 p at)) (signed (be 4 p (at + 4)))) → Narrowing (rangeAt p (skip + 8 * k)) rows offsets (own (variableAt g n k)) (r + 1) d
+    turn : (k at : ℕ) → k < 4 → at ≡ skip + 8 * k → {c d : Condition} → Narrowing (rangeAt p (skip + 8 * k)) count offsets (own (variableAt g n k)) r c
+        → d ≡ both c (range (signed (be 4 here-on at)) (signed (be 4 here-on (at + 4)))) → Narrowing (rangeAt p (skip + 8 * k)) count offsets (own (variableAt g n k)) (r + 1) d
     turn k at l i {c} s d =
-        range-step p (skip + 8 * k) rows offsets (own (variableAt g n k)) r s (ranges-bytes g p n rows offsets (u .rules) k (skip + 8 * k) (place k l)) h
-        (d ∙ ap (λ (j : ℕ). both c (range (signed (be 4 p j)) (signed (be 4 p (j + 4))))) (let q : at ≡ getD offsets r 0 + (skip + 8 * k) = omega arith in q))
+        range-step p (skip + 8 * k) count offsets (own (variableAt g n k)) r s (ranges-bytes g p n count offsets (u .rules) k (skip + 8 * k) (place k l)) h
+        (d ∙ ap (λ (j : ℕ). both c (range (signed (be 4 here-on j)) (signed (be 4 here-on (j + 4))))) i)
 
     pub four-step : {w' x' y' z' : Condition}
-        → w' ≡ both w (range (signed (be 4 p (getD offsets r 0 + skip))) (signed (be 4 p (getD offsets r 0 + skip + 4))))
-        → x' ≡ both x (range (signed (be 4 p (getD offsets r 0 + skip + 8))) (signed (be 4 p (getD offsets r 0 + skip + 8 + 4))))
-        → y' ≡ both y (range (signed (be 4 p (getD offsets r 0 + skip + 16))) (signed (be 4 p (getD offsets r 0 + skip + 16 + 4))))
-        → z' ≡ both z (range (signed (be 4 p (getD offsets r 0 + skip + 24))) (signed (be 4 p (getD offsets r 0 + skip + 24 + 4))))
-        → Four g p n rows offsets skip (r + 1) w' x' y' z'
+        → w' ≡ both w (range (signed (be 4 here-on skip)) (signed (be 4 here-on (skip + 4))))
+        → x' ≡ both x (range (signed (be 4 here-on (skip + 8))) (signed (be 4 here-on (skip + 8 + 4))))
+        → y' ≡ both y (range (signed (be 4 here-on (skip + 16))) (signed (be 4 here-on (skip + 16 + 4))))
+        → z' ≡ both z (range (signed (be 4 here-on (skip + 24))) (signed (be 4 here-on (skip + 24 + 4))))
+        → Four g p n count offsets skip (r + 1) w' x' y' z'
     four-step {w'} {x'} {y'} {z'} ew ex ey ez =
-        let at = getD offsets r 0 + skip in
         record {
           rules = u .rules;
           numbers = u .numbers;
           first = u .first;
-          small = u .small;
           each =
-              below-four (Left g p n rows offsets skip (r + 1) (w' ∷ x' ∷ y' ∷ z' ∷ []))
-              (turn 0 at (omega arith) (omega arith) (u .each 0 (omega arith)) ew)
-              (turn 1 (at + 8) (omega arith) (omega arith) (u .each 1 (omega arith)) ex)
-              (turn 2 (at + 16) (omega arith) (omega arith) (u .each 2 (omega arith)) ey)
-              (turn 3 (at + 24) (omega arith) (omega arith) (u .each 3 (omega arith)) ez);
+              below-four (Left g p n count offsets skip (r + 1) (w' ∷ x' ∷ y' ∷ z' ∷ []))
+              (turn 0 skip (omega arith) (omega arith) (u .each 0 (omega arith)) ew)
+              (turn 1 (skip + 8) (omega arith) (omega arith) (u .each 1 (omega arith)) ex)
+              (turn 2 (skip + 16) (omega arith) (omega arith) (u .each 2 (omega arith)) ey)
+              (turn 3 (skip + 24) (omega arith) (omega arith) (u .each 3 (omega arith)) ez);
         }
 
   -- all rows are behind
-  done-at : rows ≤ r → (k : ℕ) → k < 4 → getD (combined g qs n) k (mask 0) ≡ getD (w ∷ x ∷ y ∷ z ∷ []) k (mask 0)
+  done-at : count ≤ r → (k : ℕ) → k < 4 → getD (combined g qs n) k (mask 0) ≡ getD (w ∷ x ∷ y ∷ z ∷ []) k (mask 0)
   unfolding combined
   done-at h k l =
       combined-at qs n 0 k vs (mask 0) (four-below vs k (u .numbers) l)
       ∙ ap (λ (j : ℕ). restrictAll qs n j (own (variableAt g n k))) (zero-add k)
-      ∙ sym (narrowing-exit (rangeAt p (skip + 8 * k)) rows offsets (own (variableAt g n k)) r (u .each k l) (u .rules .long) h
-      ∙ ranges-left g p n rows offsets (u .rules) k (skip + 8 * k) (place k l) (own (variableAt g n k)))
+      ∙ sym (narrowing-exit (rangeAt p (skip + 8 * k)) count offsets (own (variableAt g n k)) r (u .each k l) (u .rules .long) h
+      ∙ ranges-left g p n count offsets (u .rules) k (skip + 8 * k) (place k l) (own (variableAt g n k)))
+
+  pub four-is : count ≤ r → w ∷ x ∷ y ∷ z ∷ [] ≡ combined g qs n
+  unfolding combined
+  four-is h =
+      ext-getD (mask 0) (w ∷ x ∷ y ∷ z ∷ []) (combined g qs n) (sym (combined-length qs n 0 vs ∙ four-length vs (u .numbers))) λ k l.
+      sym (done-at h k l)
 
 -- the record, as the code makes it of the bounds
-pub four-exit : (g : List Node) (p : List ℕ) (n rows : ℕ) (offsets : List ℕ) (skip r : ℕ) (w x y z : Range)
-    → Four g p n rows offsets skip r (range (w .lo) (w .hi)) (range (x .lo) (x .hi)) (range (y .lo) (y .hi)) (range (z .lo) (z .hi)) → rows ≤ r
+pub four-exit : (g : List Node) (p : List ℕ) (n count : ℕ) (offsets : List ℕ) (skip r : ℕ) (w x y z : Range)
+    → Four g p n count offsets skip r (range (w .lo) (w .hi)) (range (x .lo) (x .hi)) (range (y .lo) (y .hi)) (range (z .lo) (z .hi)) → count ≤ r
     → mag (w .lo) < 2 ^ 31 → mag (x .lo) < 2 ^ 31 → mag (y .lo) < 2 ^ 31 → mag (z .lo) < 2 ^ 31
     → mag (w .hi) < 2 ^ 31 → mag (x .hi) < 2 ^ 31 → mag (y .hi) < 2 ^ 31 → mag (z .hi) < 2 ^ 31
-    → record {
+    → rangesIn (record {
       lo = toZ w32 (ofZ w32 (w .lo)) ∷ toZ w32 (ofZ w32 (x .lo)) ∷ toZ w32 (ofZ w32 (y .lo)) ∷ toZ w32 (ofZ w32 (z .lo)) ∷ [];
       hi = toZ w32 (ofZ w32 (w .hi)) ∷ toZ w32 (ofZ w32 (x .hi)) ∷ toZ w32 (ofZ w32 (y .hi)) ∷ toZ w32 (ofZ w32 (z .hi)) ∷ [];
       mask = 0 ∷ 0 ∷ 0 ∷ 0 ∷ [];
-    } ≡ recordOf (combined g (rulesAt g p n (take rows offsets)) n)
-unfolding recordOf four
-four-exit g p n rows offsets skip r w x y z u h wl xl yl zl wh xh yh zh =
-    let at = done-at g p n rows offsets skip r u h in
-    rw (
-      kept (w .lo) wl,
-      kept (x .lo) xl,
-      kept (y .lo) yl,
-      kept (z .lo) zl,
-      kept (w .hi) wh,
-      kept (x .hi) xh,
-      kept (y .hi) yh,
-      kept (z .hi) zh,
-      at 0 (omega arith),
-      at 1 (omega arith),
-      at 2 (omega arith),
-      at 3 (omega arith),
-    )
+    }) ≡ combined g (rulesAt g p n (take count offsets)) n
+unfolding rangesIn
+four-exit g p n count offsets skip r w x y z u h wl xl yl zl wh xh yh zh =
+    rw (kept (w .lo) wl, kept (x .lo) xl, kept (y .lo) yl, kept (z .lo) zl, kept (w .hi) wh, kept (x .hi) xh, kept (y .hi) yh, kept (z .hi) zh)
+    (four-is g p n count offsets skip r u h)

@@ -1,2 +1,3 @@
-pub mod Held
+pub mod Least
 pub mod Rules
+pub mod Ranks

@@ -1,6 +1,6 @@
 -- A file in a buffer; an accepted instance file is the encoding of what was read, so its copy is a copy of the bytes.
 -- Rests on the law of `copy` of the kit's bytes, and on `read-encode` of the instances' round trip.
-use mathlib.Core.Path.{_≡_, ap, sym, subst, _∙_}
+use mathlib.Core.Path.{_≡_, refl, ap, sym, subst, _∙_}
 use mathlib.Core.List.{List, _++_}
 use Prim.Native.Nat.{ℕ, _≤_, _<_}
 use borrow.Author.Tests.{le-leb, lt-leb}
@@ -9,13 +9,15 @@ use lib.Seq.{take-length}
 use Rattle.fields.specs.Answers.{stepOf, success, refusal, judged}
 use Rattle.fields.specs.Outcomes.{Did, leaving, placed}
 use Rattle.fields.specs.declared.Answer.{Answer}
-use Rattle.fields.specs.declared.Step.{Step}
-use Rattle.fields.specs.declared.Step.the-variants.{Next}
 use Rattle.fields.proofs.Bytes.{Bytes}
-use Rattle.fields.proofs.Reading.{stepped}
+use Rattle.fields.proofs.Judged.{judged-bad-did}
 use Rattle.schema.specs.Schema.{Node}
 use Rattle.instances.specs.File.{instance, encode}
 use Rattle.instances.proofs.RoundTrip.{read-encode}
+use Rattle.instance_reader.specs.Decoded.{YieldsInstance}
+use Rattle.instance_reader.specs.declared.InstanceRead.{InstanceRead}
+use Rattle.instance_reader.specs.declared.InstanceRead.the-variants.{Instance, NoInstance}
+use Rattle.instance_reader.proofs.Decoded.{no-instance, an-instance}
 
 -- ---- a file in a buffer
 
@@ -35,9 +37,13 @@ module _ (file out : List ℕ) {r : Answer} where
 
 -- ---- the instance that was read
 
-pub copied : (g : List Node) (s out : List ℕ) {f : Step} {q : ℕ} {r : Answer} {c : List ℕ} → f ≡ stepOf (instance g s) → f ≡ Next q → Bytes s → Did (placed s out) r c
-    → Did (judged (leaving out) 4 (instance g s) (λ i. placed (encode g i) out)) r c
-unfolding judged
-copied g s out {r = r} {c} e h x d =
-    let w = stepped (instance g s) e h in
-    rw (w .1) (subst (λ (y : List ℕ). Did (placed y out) r c) (sym (read-encode g s x (w .1))) d)
+module _ (g : List Node) (s out choices bits : List ℕ) {x : InstanceRead} (w : YieldsInstance g s choices bits x) {r : Answer} where
+  pub copy-refused : {n o : ℕ} → x ≡ NoInstance n o → r ≡ refusal n 4 o → Did (judged (leaving out) 4 (instance g s) (λ i. placed (encode g i) out)) r out
+  copy-refused h e = judged-bad-did 4 (instance g s) (ap stepOf (sym (no-instance g s choices bits w h))) refl out (λ i. placed (encode g i) out) e
+
+  pub copied : {m : ℕ} {c : List ℕ} → x ≡ Instance m → Bytes s → Did (placed s out) r c
+      → Did (judged (leaving out) 4 (instance g s) (λ i. placed (encode g i) out)) r c
+  unfolding judged
+  copied {c = c} h b d =
+      let y = an-instance g s choices bits w h in
+      rw (y .reads) (subst (λ (z : List ℕ). Did (placed z out) r c) (sym (read-encode g s b (y .reads))) d)

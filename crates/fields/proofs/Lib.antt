@@ -8,3 +8,5 @@ pub mod At
 pub mod Refusals
 pub mod Judged
 pub mod Cut
+pub mod Runs
+pub mod Shorts

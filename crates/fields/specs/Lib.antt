@@ -3,3 +3,4 @@ pub mod Writing
 pub mod Answers
 pub mod Outcomes
 pub mod Runs
+pub mod Shorts

@@ -1,27 +1,50 @@
--- What the calls have of policies and pass: for each way that the reading can end, what a call then comes to, whatever it does; `inputs`
--- gathers the laws in the shape of a return. Rests on the definitions of the readings, and on the list of the policies in force.
-use mathlib.Core.Path.{_≡_, refl, ap, sym, _∙_}
+-- What the calls have of policies and pass: for each way that the reading can end, what a call then comes to, whatever it does; the
+-- rulesets gather the laws in the shape of a return. Rests on what rows note, and on lists of policies that say the same of every node.
+use mathlib.Core.Path.{_≡_, refl, ap, ap₂, sym, _∙_, fun-ext}
 use mathlib.Core.List.{List}
 use Prim.Native.Nat.{ℕ, _≤_}
 use native.Mathlib.Omega.{arith}
-use lib.ListN.{length, replicate}
+use lib.ListN.{length, replicate, length-replicate}
 use Rattle.fields.specs.Reading.{Got, got, bad}
-use Rattle.fields.specs.Answers.{judged, refusal}
+use Rattle.fields.specs.Answers.{judged, success, refusal}
 use Rattle.fields.specs.Outcomes.{Outcome, Did, leaving}
 use Rattle.fields.specs.declared.Answer.{Answer}
 use Rattle.fields.proofs.Judged.{did-same, refused-did}
-use Rattle.schema.specs.Schema.{mostNodes, schemaOf}
-use Rattle.schema.specs.Table.{Tabled, Accepted, AtMost}
-use Rattle.schema.proofs.Fill.{room-4, room-16, room-64}
+use Rattle.schema.specs.Schema.{Node, schemaOf}
+use Rattle.schema.specs.Table.{AtMost}
 use Rattle.policies.specs.Policies.{Policy, policies, policiesOf}
-use Rattle.policies.specs.Pass.{pass, forced, positions, Listing, selected, Selected}
-use Rattle.policies.specs.Index.{IndexIn}
-use Rattle.policies.proofs.Above.{index-4, index-16, index-64, selects, selects-forced}
-use Rattle.policies.proofs.Pass.{lists-count, positions-of}
+use Rattle.policies.specs.Pass.{pass, inForce, forced}
+use Rattle.policies.specs.Rows.{rowSlot, RowsRoom, noted, Noted, rulesFor}
+use Rattle.policies.proofs.Noted.{rows-noted, rows-forced}
+use Rattle.instances.specs.Instance.{Entry}
+use Rattle.instances.specs.File.{instance}
+use Rattle.model.specs.Reconciling.{reconciled}
+use Rattle.model.specs.Comparing.{verdict, compared}
+use Rattle.model.proofs.Same.{reconciled-same, forbidden-same, as-good-same}
 use Rattle.calls.specs.Inputs.{withPolicies, withPass, withInForce}
-use Rattle.inputs.specs.Inputs.{readOf, refusedOf, RoomFor, filledList, YieldsInForce}
+use Rattle.calls.specs.Calls.{given, permitted, checkingInForce, comparingInForce}
+use Rattle.inputs.specs.Inputs.{refusedOf, YieldsInForce}
 use Rattle.inputs.specs.declared.Inputs.{Inputs}
 use Rattle.inputs.specs.declared.Inputs.the-variants.{Read, Refused}
+
+-- ---- room for the rows
+
+module _ (s : List ℕ) {count : ℕ} (m : AtMost 64 (length (schemaOf s)) count) where
+  rows-room : (k : ℕ) → rowSlot count ≤ k → RowsRoom s (replicate k 0)
+  rows-room k h =
+      let l = length-replicate {A = ℕ} k 0 in
+      record { blank = ap (λ (i : ℕ). replicate i 0) (sym l); long = omega (arith, l, m .is) }
+
+  pub rows-4 : count ≤ 4 → RowsRoom s (replicate 68 0)
+  rows-4 h = rows-room 68 (omega arith)
+
+  pub rows-16 : count ≤ 16 → RowsRoom s (replicate 272 0)
+  rows-16 h = rows-room 272 (omega arith)
+
+  pub rows-64 : RowsRoom s (replicate 1088 0)
+  rows-64 = rows-room 1088 (omega (arith, m .most))
+
+-- ---- policies and pass
 
 -- a call refuses, with this answer
 record Refusing {B : Type 0} (r : Answer) (x : B) (refuse : ℕ → ℕ → ℕ → B) : Type 0 where
@@ -31,43 +54,25 @@ record Refusing {B : Type 0} (r : Answer) (x : B) (refuse : ℕ → ℕ → ℕ 
   answer : r ≡ refusal number file offset
   is : x ≡ refuse number file offset
 
--- ---- room for the tables
-
-module _ (s : List ℕ) (a : Accepted s) where
-  pub room-for-64 : RoomFor s (replicate 320 0) (replicate 1040 0)
-  room-for-64 = record { accepted = a; table = room-64 s a; index = index-64 s }
-
-  -- of a schema of so many nodes
-  module _ {count : ℕ} (m : AtMost mostNodes (length (schemaOf s)) count) where
-    pub room-for-4 : count ≤ 4 → RoomFor s (replicate 20 0) (replicate 80 0)
-    room-for-4 h = record { accepted = a; table = room-4 s m h; index = index-4 s m h }
-
-    pub room-for-16 : count ≤ 16 → RoomFor s (replicate 80 0) (replicate 272 0)
-    room-for-16 h = record { accepted = a; table = room-16 s m h; index = index-16 s m h }
-
-pub room-accepted : (s t i : List ℕ) → RoomFor s t i → Accepted s
-room-accepted s t i w = w .accepted
-
--- ---- policies and pass
-
-module _ (s p : List ℕ) (a b : ℕ) (t i l₀ l : List ℕ) {x : Inputs} (w : YieldsInForce s p a b t i l₀ l x) where
-  pub in-force-table : Tabled s t
-  in-force-table = w .table
-
-  pub in-force-indexed : IndexIn s p i
-  in-force-indexed = w .index
-
-  in-force-refused : {B : Type 0} (refuse : ℕ → ℕ → ℕ → B) (k : List Policy → B) {r : Answer} → x ≡ Refused r → Refusing r (withInForce refuse (schemaOf s) p a b k) refuse
+module _ (s p : List ℕ) (a b : ℕ) (t : List ℕ) {x : Inputs} (w : YieldsInForce s p a b t x) where
+  refused : {B : Type 0} (refuse : ℕ → ℕ → ℕ → B) (k : List Policy → B) {r : Answer} → x ≡ Refused r → Refusing r (withInForce refuse (schemaOf s) p a b k) refuse
   unfolding withInForce withPolicies withPass judged
-  in-force-refused {B} refuse k {r} h = go (policies (schemaOf s) p) (pass a b) (sym h ∙ w .answer)
+  refused {B} refuse k {r} h = go (policies (schemaOf s) p) (pass a b) (sym h ∙ w .answer)
     where
-      go : (g : Got (List Policy)) (q : Got ℕ) → Refused r ≡ judged refusedOf 2 g (λ ps. judged refusedOf 3 q (λ _. readOf (forced a b ps)))
+      go : (g : Got (List Policy)) (q : Got ℕ) → Refused r ≡ judged refusedOf 2 g (λ ps. judged refusedOf 3 q (λ _. Read))
           → Refusing r (judged refuse 2 g (λ ps. judged refuse 3 q (λ _. k (forced a b ps)))) refuse
       go (got ps u) (got d v) e = absurd (let z : _≡_ {A = ℕ} 0 1 = cc in omega arith)
       go (got ps u) (bad m v) e = record { number = m; file = 3; offset = v; answer = cc; is = refl }
       go (bad m u) q e = record { number = m; file = 2; offset = u; answer = cc; is = refl }
 
-  module _ {c : ℕ} (h : x ≡ Read c) where
+  module _ {r : Answer} (h : x ≡ Refused r) where
+    pub in-force-bad : (k : List Policy → Answer) → r ≡ withInForce refusal (schemaOf s) p a b k
+    in-force-bad k = let w = refused refusal k h in w .answer ∙ sym (w .is)
+
+    pub in-force-bad-did : (out : List ℕ) (k : List Policy → Outcome) → Did (withInForce (leaving out) (schemaOf s) p a b k) r out
+    in-force-bad-did out k = let w = refused (leaving out) k h in refused-did out (w .is) (w .answer)
+
+  module _ (h : x ≡ Read) where
     -- both were accepted
     record Both : Type 0 where
       end : ℕ
@@ -75,46 +80,55 @@ module _ (s p : List ℕ) (a b : ℕ) (t i l₀ l : List ℕ) {x : Inputs} (w : 
       day : ℕ
       pass-end : ℕ
       pass-got : pass a b ≡ got day pass-end
-      count : c ≡ length (forced a b (policiesOf (schemaOf s) p))
 
     both : Both
     unfolding withInForce withPolicies withPass policiesOf judged
     both = go (policies (schemaOf s) p) (pass a b) refl refl (sym h ∙ w .answer)
       where
         go : (r : Got (List Policy)) (q : Got ℕ) → policies (schemaOf s) p ≡ r → pass a b ≡ q
-            → Read c ≡ judged refusedOf 2 r (λ ps. judged refusedOf 3 q (λ _. readOf (forced a b ps))) → Both
-        go (got ps u) (got d v) y z e =
-            record { end = u; policies-got = rw y; day = d; pass-end = v; pass-got = z; count = rw y (cc) }
+            → Read ≡ judged refusedOf 2 r (λ ps. judged refusedOf 3 q (λ _. Read)) → Both
+        go (got ps u) (got d v) y z e = record { end = u; policies-got = rw y; day = d; pass-end = v; pass-got = z }
         go (got ps u) (bad m v) y z e = absurd (let z : _≡_ {A = ℕ} 0 1 = cc in omega arith)
         go (bad m u) q y z e = absurd (let z : _≡_ {A = ℕ} 0 1 = cc in omega arith)
 
-    listing : Listing (positions a b 0 (policiesOf (schemaOf s) p)) l₀ l c
-    unfolding withPolicies filledList judged
-    listing =
-        record {
-          list = w .list ∙ rw (both .policies-got, both .pass-got);
-          count = both .count ∙ sym (lists-count (positions-of a b (policiesOf (schemaOf s) p)));
-        }
+    pub in-force-noted : Noted s p t
+    in-force-noted = rows-noted s p t (inForce a b) (w .rows (policiesOf (schemaOf s) p) (both .end) (both .policies-got)) (w .long)
 
-    pub in-force-selected : Selected s p l c
-    in-force-selected = selects s p a b l₀ l listing
+    same : (n : ℕ) → rulesFor n (noted (schemaOf s) p t) ≡ rulesFor n (forced a b (policiesOf (schemaOf s) p))
+    same = rows-forced s p t a b (w .rows (policiesOf (schemaOf s) p) (both .end) (both .policies-got)) (w .long)
 
-    in-force-read : {B : Type 0} (refuse : ℕ → ℕ → ℕ → B) (k : List Policy → B) → withInForce refuse (schemaOf s) p a b k ≡ k (selected s p l c)
+    read : {B : Type 0} (refuse : ℕ → ℕ → ℕ → B) (k : List Policy → B) → k (noted (schemaOf s) p t) ≡ k (forced a b (policiesOf (schemaOf s) p))
+        → withInForce refuse (schemaOf s) p a b k ≡ k (noted (schemaOf s) p t)
     unfolding withInForce withPolicies withPass judged
-    in-force-read refuse k = rw (both .policies-got, both .pass-got) (ap k (sym (selects-forced s p a b l₀ l listing)))
+    read refuse k e = rw (both .policies-got, both .pass-got) (sym e)
 
-    pub in-force-ok : (k : List Policy → Answer) {r : Answer} → r ≡ k (selected s p l c) → r ≡ withInForce refusal (schemaOf s) p a b k
-    in-force-ok k d = d ∙ sym (in-force-read refusal k)
+    -- the reconciler's last rows
+    pub in-force-reconciled : (out : List ℕ) {r : Answer} {after : List ℕ} → Did (given (schemaOf s) out (reconciled (schemaOf s) (noted (schemaOf s) p t))) r after
+        → Did (withInForce (leaving out) (schemaOf s) p a b (λ ps. given (schemaOf s) out (reconciled (schemaOf s) ps))) r after
+    in-force-reconciled out d =
+        did-same (read (leaving out) (λ ps. given (schemaOf s) out (reconciled (schemaOf s) ps)) (ap (given (schemaOf s) out) (reconciled-same (schemaOf s) (noted (schemaOf s) p t) (forced a b (policiesOf (schemaOf s) p)) same))) d
 
-    pub in-force-ok-did : (out : List ℕ) (k : List Policy → Outcome) {r : Answer} {after : List ℕ} → Did (k (selected s p l c)) r after
-        → Did (withInForce (leaving out) (schemaOf s) p a b k) r after
-    in-force-ok-did out k d = did-same (in-force-read (leaving out) k) d
+    -- an instance checked
+    pub in-force-checked : (i : List ℕ) {r : Answer} → r ≡ checkingInForce (schemaOf s) (noted (schemaOf s) p t) i
+        → r ≡ withInForce refusal (schemaOf s) p a b (λ ps. checkingInForce (schemaOf s) ps i)
+    unfolding checkingInForce
+    in-force-checked i d =
+        let g = schemaOf s in
+        d
+        ∙ sym (read refusal (λ ps. checkingInForce g ps i)
+        (ap (judged refusal 4 (instance g i)) (fun-ext λ (e : List Entry). ap permitted (forbidden-same g (noted g p t) (forced a b (policiesOf g p)) same e))))
 
-  module _ {r : Answer} (h : x ≡ Refused r) where
-    pub in-force-bad : (k : List Policy → Answer) → r ≡ withInForce refusal (schemaOf s) p a b k
-    in-force-bad k = let w = in-force-refused refusal k h in w .answer ∙ sym (w .is)
+    -- two instances compared
+    pub in-force-compared : (i j : List ℕ) {r : Answer} → r ≡ comparingInForce (schemaOf s) (noted (schemaOf s) p t) i j
+        → r ≡ withInForce refusal (schemaOf s) p a b (λ ps. comparingInForce (schemaOf s) ps i j)
+    unfolding comparingInForce compared
+    in-force-compared i j d =
+        let g = schemaOf s in
+        let ps = forced a b (policiesOf g p) in
+        d
+        ∙ sym (read refusal (λ ps. comparingInForce g ps i j)
+        (ap (judged refusal 4 (instance g i)) (fun-ext λ (e : List Entry).
+        ap (judged refusal 5 (instance g j)) (fun-ext λ (f : List Entry).
+        ap success (ap₂ verdict (as-good-same g (noted g p t) ps same e f) (as-good-same g (noted g p t) ps same f e))))))
 
-    pub in-force-bad-did : (out : List ℕ) (k : List Policy → Outcome) → Did (withInForce (leaving out) (schemaOf s) p a b k) r out
-    in-force-bad-did out k = let w = in-force-refused (leaving out) k h in refused-did out (w .is) (w .answer)
-
-pub ruleset inputs = (in-force-ok, in-force-ok-did, in-force-bad, in-force-bad-did)
+pub ruleset inputs = (in-force-reconciled, in-force-checked, in-force-compared, in-force-bad, in-force-bad-did)

@@ -8,3 +8,4 @@ pub mod RoundTrip
 pub mod Refusals
 pub mod Cut
 pub mod Node
+pub mod Slots

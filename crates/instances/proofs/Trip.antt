@@ -40,7 +40,7 @@ unfolding spell be
 IN-letters = refl
 
 -- a number between two that fit fits
-between : (lo hi x : ℤ) → SFits w32 lo → SFits w32 hi → leZ lo x && leZ x hi ≡ true → SFits w32 x
+pub between : (lo hi x : ℤ) → SFits w32 lo → SFits w32 hi → leZ lo x && leZ x hi ≡ true → SFits w32 x
 between lo hi x a b e = go lo hi x (a .sfits) (b .sfits) (and-true (leZ lo x) (leZ x hi) e)
   where
     go : (lo hi x : ℤ) → mag lo < 2 ^ 31 → mag hi < 2 ^ 31 → (leZ lo x ≡ true) × (leZ x hi ≡ true) → SFits w32 x

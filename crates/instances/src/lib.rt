@@ -22,7 +22,7 @@ pub const MOST_BYTES: usize = HEAD_WIDTH
     + MOST_NODES * (ENTRY_WIDTH + MOST_VARIABLES * NUMBER_WIDTH);
 
 // Whether a node is of kind 1 and has successors.
-pub fn chooses(schema: &[u8], table: &[usize], n: usize) -> bool
+pub fn chooses(schema: &[u8], table: &[u16], n: usize) -> bool
     requires { ⌜ NodeIn (now schema) (now table) n ⌝ }
     ensures { λ r. ⌜ r ≡ chooses (nodeAt (schemaOf (now (schema .entry))) n) ⌝ }
 {
@@ -32,7 +32,7 @@ pub fn chooses(schema: &[u8], table: &[usize], n: usize) -> bool
     false
 }
 
-fn with_successors(schema: &[u8], table: &[usize], n: usize, m: u64) -> u64
+fn with_successors(schema: &[u8], table: &[u16], n: usize, m: u64) -> u64
     requires { ⌜ NodeIn (now schema) (now table) n ⌝ }
     ensures { λ r. ⌜ r ≡ withAll m (nodeAt (schemaOf (now (schema .entry))) n .successors) ⌝ }
 {
@@ -47,8 +47,16 @@ fn with_successors(schema: &[u8], table: &[usize], n: usize, m: u64) -> u64
     r
 }
 
+// The set of node n's successors.
+pub fn successor_set(schema: &[u8], table: &[u16], n: usize) -> u64
+    requires { ⌜ NodeIn (now schema) (now table) n ⌝ }
+    ensures { λ r. ⌜ r ≡ withAll 0 (nodeAt (schemaOf (now (schema .entry))) n .successors) ⌝ }
+{
+    with_successors(schema, table, n, 0)
+}
+
 // The set with the nodes that node n reaches by choice c.
-pub fn reach(schema: &[u8], table: &[usize], n: usize, c: usize, m: u64) -> u64
+pub fn reach(schema: &[u8], table: &[u16], n: usize, c: usize, m: u64) -> u64
     requires { ⌜ NodeIn (now schema) (now table) n ⌝ }
     ensures { λ r. ⌜ r ≡ withAll m (reaches (nodeAt (schemaOf (now (schema .entry))) n) c) ⌝ }
 {

@@ -12,3 +12,4 @@ pub mod Satisfaction
 pub mod Right
 pub mod Comparing
 pub mod Forbidden
+pub mod Same

@@ -2,19 +2,20 @@
 -- Rests on the library's laws of `/ 2 ^ k`, `bitAnd`, `bitOr` and `bitXor`, digit by digit.
 use mathlib.Core.Path.{_≡_, refl, ap, sym, _∙_, subst}
 use mathlib.Core.Logic.{_⊎_, inl, inr}
-use mathlib.Core.Bool.{Bool, true, false, cond, _||_, not}
+use mathlib.Core.Bool.{Bool, true, false, cond, _&&_, _||_, not}
 use mathlib.Core.List.{List, [], _∷_, List·Memᴰ, List·Memᴰ·head, List·Memᴰ·tail, List·Memᴰ·not-nil, List·Memᴰ·cases-cons}
 use Prim.Native.Nat.{ℕ, zero, suc, _+_, _-_, _*_, _/_, _%_, _^_, _≤_, _<_, min, max}
-use native.Mathlib.Nat.{pow-suc, pow-succ', div-one, div-div-eq-div-mul, div-lt-iff-lt-mul, zero-lt-suc, mod-eq-of-lt, one-mul, div-eq-of-lt, div-self, zero-div, mul-mod-left, lt-of-lt-of-le}
+use native.Mathlib.Nat.{pow-suc, pow-succ', div-one, div-div-eq-div-mul, div-lt-iff-lt-mul, zero-lt-suc, mod-eq-of-lt, one-mul, div-eq-of-lt, div-self, zero-div, mul-mod-left, lt-of-lt-of-le, lt-of-mul-lt-mul-right}
 use native.Mathlib.Omega.{arith}
 use native.Mathlib.Decide.{decLt}
 use borrow.Author.Tests.{lt-ltb, le-ltb, eq-eqb, ne-eqb, eqb-true}
 use lib.Dec.{eqb, ltb}
 use lib.Bits.{bitAnd, bitOr, bitXor, differ, and-shr, and-step, or-shr, or-step, xor-shr, xor-step}
-use lib.Pow.{pow-pos, pow-lt, pow-mono, pow-add, shl-shr, ones-split, high, ones-lt}
+use lib.Pow.{pow-pos, pow-lt, pow-mono, pow-add, shl-shr, shl-exact, ones-split, high, ones-lt}
 use lib.Count.{trailingZeros, under}
-use Rattle.fields.proofs.Tests.{never, or-true, or-left, or-right}
-use Rattle.numbers.specs.Bits.{bit, ones, with, turned, withAll}
+use Rattle.fields.proofs.Tests.{never, or-true, or-left, or-right, and-yes, and-true, alike, is-not}
+use Rattle.numbers.specs.Bits.{bit, ones, with, turned, without, withAll}
+use Rattle.numbers.specs.Lowest.{Lowest}
 
 abbrev digit : ℕ → ℕ → ℕ
 digit m k = m / 2 ^ k % 2
@@ -49,6 +50,10 @@ module _ (x : ℕ) where
   unfolding turned
   turned-out m h = rw (le-ltb x 64 h)
 
+  pub without-by : (m : ℕ) {a r : ℕ} → a ≡ with m x → r ≡ turned a x → r ≡ without m x
+  unfolding without
+  without-by m e f = f ∙ ap (λ (a : ℕ). turned a x) e
+
 module _ (n : ℕ) where
   one-at : n < 32 → 1 * 2 ^ n % 4294967296 ≡ 2 ^ n
   one-at h = let l : 2 ^ n < 2 ^ 32 = pow-lt h in ap (λ (z : ℕ). z % 4294967296) (one-mul (2 ^ n)) ∙ mod-eq-of-lt l
@@ -76,6 +81,22 @@ part-size m n = go (decLt m (2 ^ n))
 
 pub whole-size : (m n : ℕ) → m < 2 ^ 32 → 32 ≤ n → true ≡ ltb m (2 ^ n)
 whole-size m n h l = sym (lt-ltb m (2 ^ n) (lt-of-lt-of-le h (pow-mono l)))
+
+-- a mask moved up by its spare bits, and what that says of it
+pub spare-size : (m k : ℕ) → m < 2 ^ 32 → k ≤ 32 → eqb (m * 2 ^ k % 18446744073709551616 / 2 ^ 32) 0 ≡ ltb (m * 2 ^ k) (2 ^ 32)
+spare-size m k h l = let e : m * 2 ^ k % 2 ^ 64 ≡ m * 2 ^ k = shl-exact 32 k 64 h (omega arith) in ap (λ (i : ℕ). eqb (i / 2 ^ 32) 0) e ∙ part-size (m * 2 ^ k) 32
+
+pub spare-within : (m size : ℕ) → m * 2 ^ (32 - size) < 2 ^ 32 → m < 2 ^ size
+spare-within m size l = go (decLt 32 size)
+  where
+    go : Dec (32 < size) → m < 2 ^ size
+    go (yes a) =
+        let e : 32 - size ≡ 0 = omega arith in
+        let h : m < 2 ^ 32 = omega (arith, rw e at l) in
+        lt-of-lt-of-le h (pow-mono (let z : 32 ≤ size = omega arith in z))
+    go (no a) =
+        let e : size + (32 - size) ≡ 32 = omega arith in
+        lt-of-mul-lt-mul-right (2 ^ (32 - size)) (subst (λ (i : ℕ). m * 2 ^ (32 - size) < i) (ap (λ (i : ℕ). 2 ^ i) (sym e) ∙ pow-add 2 size (32 - size)) l)
 
 -- ---- one bit of each
 
@@ -154,6 +175,20 @@ turned-bit m x k h =
     rw (lt-ltb x 64 h)
     (ap (λ (z : ℕ). eqb z 1) (xor-digit m (2 ^ x) k ∙ ap (differ (digit m k)) (pow-digit x k))
     ∙ apart (digit m k) (eqb k x) (omega arith))
+
+pub without-bit : (m x k : ℕ) → x < 64 → bit (without m x) k ≡ bit m k && not (eqb k x)
+unfolding without
+without-bit m x k h = turned-bit (with m x) x k h ∙ rw (with-bit m x k h) (go (bit m k) (eqb k x))
+  where
+    go : (a t : Bool) → cond t (not (a || t)) (a || t) ≡ a && not t
+    go true true = refl
+    go true false = refl
+    go false true = refl
+    go false false = refl
+
+pub or-bit : (a b k : ℕ) → bit (bitOr a b) k ≡ bit a k || bit b k
+unfolding bit
+or-bit a b k = ap (λ (z : ℕ). eqb z 1) (or-digit a b k) ∙ either-one (digit a k) (digit b k) (omega arith) (omega arith)
 
 -- ---- a list of bits set
 
@@ -234,6 +269,10 @@ and-bit a b k h =
 pub bit-and : (a b k : ℕ) → bit a k ≡ true → bit b k ≡ true → bit (bitAnd a b) k ≡ true
 bit-and a b k h l = one-is (bitAnd a b) k (and-digit a b k ∙ omega (arith, is-one a k h, is-one b k l))
 
+pub both-bit : (a b k : ℕ) → bit (bitAnd a b) k ≡ bit a k && bit b k
+both-bit a b k =
+    alike (bit (bitAnd a b) k) (bit a k && bit b k) (λ t. let z = and-bit a b k t in and-yes (z .0) (z .1)) (λ t. let z = and-true (bit a k) (bit b k) t in bit-and a b k (z .0) (z .1))
+
 -- a mask of k ones has the bits below k, and no number below 2 ^ k has another
 ones-low : (i : ℕ) → (2 ^ suc i - 1) % 2 ≡ 1
 ones-low i = omega (arith, pow-pos i)
@@ -301,6 +340,26 @@ tz-small (suc k) m p u = go (m % 2) refl (λ w. tz-small k (m / 2) w (half-below
 pub tz-bit : (k m : ℕ) → 0 < m → m < 2 ^ k → bit m (trailingZeros k m) ≡ true
 tz-bit k m h l = one-is m (trailingZeros k m) (tz-one k m h l)
 
+-- whatever the size, where it is below k
+tz-below : (k m : ℕ) → trailingZeros k m < k → digit m (trailingZeros k m) ≡ 1
+unfolding trailingZeros
+tz-below zero m h = absurd (omega arith)
+tz-below (suc k) m h = go (m % 2) refl (tz-below k (m / 2)) h
+  where
+    go : (r : ℕ) → m % 2 ≡ r → (trailingZeros k (m / 2) < k → digit (m / 2) (trailingZeros k (m / 2)) ≡ 1) → under r (trailingZeros k (m / 2)) < suc k → digit m (under r (trailingZeros k (m / 2))) ≡ 1
+    go zero e ih l = digit-suc m _ ∙ ih (omega arith)
+    go (suc r) e ih l = digit-zero m ∙ omega arith
+
+pub lowest-bit : (k m : ℕ) {r : ℕ} → Lowest k m r → bit m r ≡ true
+lowest-bit k m l = rw (l .is) (one-is m (trailingZeros k m) (tz-below k m (omega (arith, l .is, l .small))))
+
+pub tz-above : (k m x : ℕ) → x < k → ((i : ℕ) → bit m i ≡ true → x < i) → x < trailingZeros k m
+tz-above k m x l f = go (decLt (trailingZeros k m) k)
+  where
+    go : Dec (trailingZeros k m < k) → x < trailingZeros k m
+    go (yes h) = f (trailingZeros k m) (one-is m (trailingZeros k m) (tz-below k m h))
+    go (no h) = omega arith
+
 pub tz-least : (k m y : ℕ) → bit m y ≡ true → trailingZeros k m ≤ y
 tz-least k m y h = tz-low k m y (is-one m y h)
 
@@ -342,3 +401,14 @@ turned-with m x h e = bits-same (turned (with m x) x) m (λ i. turned-bit (with 
     go : (i : ℕ) (t : Bool) → eqb i x ≡ t → cond t (not (bit m i || t)) (bit m i || t) ≡ bit m i
     go i true q = ap not (or-right (bit m i) true refl) ∙ sym (ap (bit m) (eqb-true i x q) ∙ e)
     go i false q = sym (or-false (bit m i))
+
+-- a set without nodes
+pub no-bits : (m : ℕ) → ((i : ℕ) → bit m i ≡ true → ⊥) → m ≡ 0
+no-bits m f = bits-same m 0 (λ i. is-not (bit m i) (f i) ∙ sym (no-bit i))
+
+-- all nodes of a are in b
+pub subset-in : (a b k : ℕ) → bitAnd a b ≡ a → bit a k ≡ true → bit b k ≡ true
+subset-in a b k e t = and-bit a b k (ap (λ (m : ℕ). bit m k) e ∙ t) .1
+
+pub in-subset : (a b : ℕ) → ((k : ℕ) → bit a k ≡ true → bit b k ≡ true) → bitAnd a b ≡ a
+in-subset a b f = bits-same (bitAnd a b) a (λ k. alike (bit (bitAnd a b) k) (bit a k) (λ t. and-bit a b k t .0) (λ t. bit-and a b k t (f k t)))

@@ -21,6 +21,10 @@ with m x = cond (ltb x 64) (bitOr m (2 ^ x)) m
 unfoldable pub turned : ℕ → ℕ → ℕ
 turned m x = cond (ltb x 64) (bitXor m (2 ^ x)) m
 
+-- m with bit x cleared, if x is below 64
+unfoldable pub without : ℕ → ℕ → ℕ
+without m x = turned (with m x) x
+
 -- m with every bit of a list set
 unfoldable pub withAll : ℕ → List ℕ → ℕ
 withAll m [] = m

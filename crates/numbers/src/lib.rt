@@ -1,8 +1,8 @@
 // Signed bounds, masks of values and sets of nodes.
 ghost use mathlib.Core.Path.{_≡_};
-ghost use Prim.Native.Nat.{_^_, _<_, _≤_};
+ghost use Prim.Native.Nat.{_*_, _^_, _<_, _≤_};
 ghost use lib.Dec.{ltb};
-ghost use Rattle.numbers.specs.Bits.{bit, ones, with, turned};
+ghost use Rattle.numbers.specs.Bits.{bit, ones, with, turned, without};
 ghost use Rattle.numbers.specs.Signs.{maxZ, minZ};
 ghost use Rattle.numbers.specs.Lowest.{Lowest};
 
@@ -27,11 +27,19 @@ pub fn has(m: u64, n: usize) -> bool
     (m >> n) % 2 == 1
 }
 
-// The set with node n added.
+// The set with node n added, which is below 64.
+pub fn insert(m: u64, n: usize) -> u64
+    requires { ⌜ n < 64 ⌝ }
+    ensures { λ r. ⌜ r ≡ with m n ⌝ }
+{
+    m | (1 << n)
+}
+
+// The same, for any number: from 64 on nothing is added.
 pub fn with(m: u64, n: usize) -> u64
     ensures { λ r. ⌜ r ≡ with m n ⌝ }
 {
-    if n < 64 { m | (1 << n) } else { m }
+    if n < 64 { insert(m, n) } else { m }
 }
 
 // The set with node n turned: taken out if it was in.
@@ -39,6 +47,13 @@ pub fn turned_bit(m: u64, n: usize) -> u64
     ensures { λ r. ⌜ r ≡ turned m n ⌝ }
 {
     if n < 64 { m ^ (1 << n) } else { m }
+}
+
+// The set with node n taken out.
+pub fn without(m: u64, n: usize) -> u64
+    ensures { λ r. ⌜ r ≡ without m n ⌝ }
+{
+    turned_bit(with(m, n), n)
 }
 
 // The lowest node of a set.
@@ -77,4 +92,12 @@ pub fn within(mask: u32, size: u8) -> bool
         return true;
     }
     mask >> size == 0
+}
+
+// No bit of the mask among its highest, so many of them: moved up by them it does not outgrow 32 bits.
+pub fn spares(mask: u32, spare: u16) -> bool
+    requires { ⌜ spare ≤ 32 ⌝ }
+    ensures { λ r. ⌜ r ≡ ltb (mask * 2 ^ spare) (2 ^ 32) ⌝ }
+{
+    ((mask as u64) << spare) >> 32 == 0
 }

@@ -1,7 +1,7 @@
 -- The scan over the columns: the best so far passes, and none of the columns passed beats it.
 -- Rests on the order being strict and total, and on the model's best-at and best-none-at.
 use mathlib.Core.Path.{_≡_, refl, ap, sym, subst, _∙_}
-use mathlib.Core.Bool.{Bool, true, false, cond, _&&_, _||_}
+use mathlib.Core.Bool.{Bool, true, false, cond, _||_}
 use mathlib.Core.List.{List}
 use mathlib.Core.Option.{Option, Option·getD}
 use Prim.Native.Nat.{ℕ, zero, suc, _+_, _≤_, _<_}
@@ -9,15 +9,14 @@ use native.Mathlib.Omega.{arith}
 use native.Mathlib.Nat.{add-zero, zero-add}
 use native.Mathlib.Decide.{decLt}
 use borrow.Author.Tests.{eq-eqb, ne-eqb, le-leb, lt-leb}
-use lib.Dec.{leb, eqb}
-use lib.ListN.{length, getD, set, length-set}
-use lib.Seq.{getD-set-same, getD-set-other}
-use Rattle.fields.proofs.Tests.{and-yes, and-true, never}
+use lib.Dec.{leb}
+use lib.ListN.{length, getD}
+use Rattle.fields.proofs.Tests.{never}
 use Rattle.model.specs.Reconciling.{best}
 use Rattle.model.proofs.Lawful.{Strict, Total}
 use Rattle.model.proofs.Ranks.{by-strict, by-total}
 use Rattle.model.proofs.Successors.{best-at, best-none-at}
-use Rattle.order.specs.Order.{countUp, rankIn, betterIn, allowedIn, inSet, firstColumn, Picked, over, First, Kept}
+use Rattle.order.specs.Order.{countUp, rankIn, betterIn, inSet, firstColumn, Picked, over, First}
 
 pub in-strict : (t : List ℕ) (rows : ℕ) → Strict (betterIn t rows)
 unfolding betterIn
@@ -40,10 +39,6 @@ count-at (suc k) c (suc j) h = count-at k (c + 1) j (omega arith) ∙ (let z : c
 
 pub count-of : (k j : ℕ) → j < k → getD (countUp k 0) j 0 ≡ j
 count-of k j h = count-at k 0 j h ∙ zero-add j
-
--- a column that may be taken
-abbrev pub fit : List ℕ → ℕ → List ℕ → ℕ → Bool
-fit t rows set c = inSet set c && allowedIn t rows c
 
 -- x is the first of the first k columns in the set, 8 for none
 pub first-none : (t : List ℕ) (rows : ℕ) (set : List ℕ) → First t rows set 0 8
@@ -109,104 +104,21 @@ module _ (t : List ℕ) (rows : ℕ) (set : List ℕ) (k x : ℕ) (w : First t r
   pub first-done : {c : ℕ} → k ≤ c → c ≤ k → First t rows set c x
   first-done {c} a b = subst (λ (n : ℕ). First t rows set n x) (let z : k ≡ c = omega arith in z) w
 
--- ---- the columns kept
-
-and-right : (b : Bool) → (b && true) ≡ b
-and-right true = refl
-and-right false = refl
-
-and-never : (b : Bool) → (b && false) ≡ false
-and-never true = refl
-and-never false = refl
-
-pub record Keeping (t : List ℕ) (rows : ℕ) (chosen : List ℕ) (k : ℕ) (kept : List ℕ) : Type 0 where
-  pub each : (c : ℕ) → c < k → inSet kept c ≡ fit t rows chosen c
-  pub long : length kept ≡ 8
-
-pub keeping-none : (t : List ℕ) (rows : ℕ) (chosen kept : List ℕ) → length kept ≡ 8 → Keeping t rows chosen 0 kept
-keeping-none t rows chosen kept l = record { each = λ c h. absurd (omega arith); long = l }
-
-module _ (t : List ℕ) (rows : ℕ) (chosen : List ℕ) (k : ℕ) (kept : List ℕ) (w : Keeping t rows chosen k kept) {b : Bool} (e : b ≡ allowedIn t rows k) where
-  more : (x : ℕ) → k < 8 → eqb x 1 ≡ fit t rows chosen k → Keeping t rows chosen (k + 1) (set kept k x)
-  more x l q = record { each = λ c h. go c h (decLt c k); long = length-set kept k x ∙ w .long }
-    where
-      go : (c : ℕ) → c < k + 1 → Dec (c < k) → inSet (set kept k x) c ≡ fit t rows chosen c
-      go c h (yes y) = ap (λ (i : ℕ). eqb i 1) (getD-set-other kept k c x 0 (λ z. omega arith)) ∙ w .each c y
-      go c h (no y) =
-          let z : c ≡ k = omega arith in
-          rw z (ap (λ (i : ℕ). eqb i 1) (getD-set-same kept k x 0 (omega (arith, w .long))) ∙ q)
-
-  pub keeping-allowed : {n : ℕ} → k < n → n ≤ 8 → b ≡ true → Keeping t rows chosen (k + 1) (set kept k (getD chosen k 0))
-  keeping-allowed h l z = more (getD chosen k 0) (omega arith) (rw (sym e ∙ z) (sym (and-right (inSet chosen k))))
-
-  pub keeping-forbidden : {n : ℕ} → k < n → n ≤ 8 → b ≡ false → Keeping t rows chosen (k + 1) (set kept k 0)
-  keeping-forbidden h l z = more 0 (omega arith) (rw (sym e ∙ z) (sym (and-never (inSet chosen k))))
-
-pub keeping-done : (t : List ℕ) (rows : ℕ) (chosen : List ℕ) (k : ℕ) (kept : List ℕ) {n : ℕ} → Keeping t rows chosen k kept → n ≤ k → Kept t rows chosen n kept
-keeping-done t rows chosen k kept w h = record { each = λ c l. w .each c (omega arith) }
-
 -- ---- the pick
 
--- x as the best of the columns that may be taken
-record Fits (t : List ℕ) (rows : ℕ) (set : List ℕ) (k x : ℕ) : Type 0 where
-  most : x ≤ 8
-  none-yet : 8 ≤ x → (c : ℕ) → c < k → fit t rows set c ≡ true → ⊥
-  below : x < 8 → x < k
-  fits : x < 8 → fit t rows set x ≡ true
-  unbeaten : x < 8 → (c : ℕ) → c < k → fit t rows set c ≡ true → betterIn t rows c x ≡ true → ⊥
-
-picked : (t : List ℕ) (rows : ℕ) (set : List ℕ) (k x : ℕ) → Fits t rows set k x → Picked t rows set k x
+pub picked-first : (t : List ℕ) (rows : ℕ) (set : List ℕ) (k x : ℕ) → First t rows set k x → Picked t rows set k x
 unfolding firstColumn
-picked t rows set k x w = record { is = go (decLt x 8); most = w .most }
+picked-first t rows set k x w = record { is = go (decLt x 8); most = w .most }
   where
-    go : Dec (x < 8) → x ≡ Option·getD (best (fit t rows set) (betterIn t rows) (countUp k 0)) 8
+    go : Dec (x < 8) → x ≡ Option·getD (best (inSet set) (betterIn t rows) (countUp k 0)) 8
     go (yes h) =
         sym (ap (λ (o : Option ℕ). Option·getD o 8)
-        (best-at (fit t rows set) (betterIn t rows) (in-strict t rows) (countUp k 0) (in-total t rows) x (omega (arith, w .below h, count-length k 0))
-        (rw (count-of k x (w .below h)) (w .fits h))
+        (best-at (inSet set) (betterIn t rows) (in-strict t rows) (countUp k 0) (in-total t rows) x (omega (arith, w .below h, count-length k 0))
+        (rw (count-of k x (w .below h)) (w .in-set h))
         (λ j l e q. let m : j < k = omega (arith, count-length k 0) in w .unbeaten h j m (rw (count-of k j m) at e) (rw (count-of k j m, count-of k x (w .below h)) at q)))
         ∙ count-of k x (w .below h))
     go (no h) =
         (let z : x ≡ 8 = let m = w .most in omega arith in z)
         ∙ sym (ap (λ (o : Option ℕ). Option·getD o 8)
-        (best-none-at (fit t rows set) (betterIn t rows) (in-strict t rows) (countUp k 0)
-        (λ j l e. let m : j < k = omega (arith, count-length k 0) in w .none-yet (omega arith) j m (rw (count-of k j m) at e))))
-
-module _ (t : List ℕ) (rows : ℕ) (set : List ℕ) (k x : ℕ) where
-  in-fit : (c : ℕ) → fit t rows set c ≡ true → inSet set c ≡ true
-  in-fit c e = and-true (inSet set c) (allowedIn t rows c) e .0
-
-  -- the first of the set, if no row forbids it or there is none
-  pub picked-first : {b : Bool} → First t rows set k x → x < 8 → b ≡ allowedIn t rows x → b ≡ true → Picked t rows set k x
-  picked-first w h e z =
-      picked t rows set k x
-      (record {
-        most = w .most;
-        none-yet = λ l. absurd (omega arith);
-        below = w .below;
-        fits = λ l. and-yes (w .in-set l) (sym e ∙ z);
-        unbeaten = λ l c m f. w .unbeaten l c m (in-fit c f);
-      })
-
-  pub picked-none : First t rows set k x → 8 ≤ x → Picked t rows set k x
-  picked-none w h =
-      picked t rows set k x
-      (record {
-        most = w .most;
-        none-yet = λ l c m f. w .none-in l c m (in-fit c f);
-        below = w .below;
-        fits = λ l. absurd (omega arith);
-        unbeaten = λ l. absurd (omega arith);
-      })
-
-  -- else the first of those that are kept
-  pub picked-kept : (kept : List ℕ) → Kept t rows set k kept → First t rows kept k x → Picked t rows set k x
-  picked-kept kept h w =
-      picked t rows set k x
-      (record {
-        most = w .most;
-        none-yet = λ l c m f. w .none-in l c m (h .each c m ∙ f);
-        below = w .below;
-        fits = λ l. sym (h .each x (w .below l)) ∙ w .in-set l;
-        unbeaten = λ l c m f. w .unbeaten l c m (h .each c m ∙ f);
-      })
+        (best-none-at (inSet set) (betterIn t rows) (in-strict t rows) (countUp k 0)
+        (λ j l e. let m : j < k = omega (arith, count-length k 0) in w .none-in (omega arith) j m (rw (count-of k j m) at e))))

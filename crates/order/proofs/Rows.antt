@@ -1,16 +1,15 @@
 -- The loops over the rows: what is left from row j on equals the whole.
--- Rests on the definitions of the order and of `every`.
+-- Rests on the definition of the order.
 use mathlib.Core.Path.{_≡_, ap, sym, _∙_}
-use mathlib.Core.Bool.{Bool, true, false, cond, not}
+use mathlib.Core.Bool.{Bool, true, false, cond}
 use mathlib.Core.List.{List, [], _∷_}
 use Prim.Native.Nat.{ℕ, suc, _+_, _-_, _*_, _≤_, _<_}
 use native.Mathlib.Omega.{arith}
 use borrow.Author.Tests.{lt-ltb, le-ltb, eq-eqb, ne-eqb, le-leb, lt-leb}
 use lib.Dec.{eqb, ltb}
 use lib.ListN.{getD}
-use Rattle.model.specs.Satisfaction.{every}
 use Rattle.model.specs.Order.{betterBy}
-use Rattle.order.specs.Order.{countUp, rankIn, betterIn, allowedIn, over}
+use Rattle.order.specs.Order.{countUp, rankIn, betterIn, over}
 
 pub next-row : (rows j : ℕ) → j < rows → countUp (rows - j) j ≡ j ∷ countUp (rows - (j + 1)) (j + 1)
 unfolding countUp
@@ -48,25 +47,6 @@ module _ (t : List ℕ) (rows p q : ℕ) where
     pub better-done : rows ≤ j → ltb p q ≡ X
     unfolding betterBy
     better-done h = sym (ap (λ (l : List ℕ). betterBy (rankIn t) l p q) (no-row rows j h)) ∙ i
-
--- no row forbids a column
-abbrev pub passes : List ℕ → ℕ → ℕ → Bool
-passes t k j = not (eqb (rankIn t j k) 255)
-
-module _ (t : List ℕ) (rows k : ℕ) where
-  pub allowed-start : every (passes t k) (countUp (rows - 0) 0) ≡ allowedIn t rows k
-  unfolding allowedIn
-  allowed-start = ap (every (passes t k)) (all-rows rows)
-
-  module _ (j : ℕ) {X : Bool} (i : every (passes t k) (countUp (rows - j) j) ≡ X) where
-    pub allowed-no : j < rows → getD t (8 * j + k) 0 ≡ 255 → false ≡ X
-    allowed-no h e = rw (eq-eqb (getD t (8 * j + k) 0) 255 e) at (sym (ap (every (passes t k)) (next-row rows j h)) ∙ i)
-
-    pub allowed-on : j < rows → (getD t (8 * j + k) 0 ≡ 255 → ⊥) → every (passes t k) (countUp (rows - (j + 1)) (j + 1)) ≡ X
-    allowed-on h e = rw (ne-eqb (getD t (8 * j + k) 0) 255 e) at (sym (ap (every (passes t k)) (next-row rows j h)) ∙ i)
-
-    pub allowed-done : rows ≤ j → true ≡ X
-    allowed-done h = sym (ap (every (passes t k)) (no-row rows j h)) ∙ i
 
 -- one column in place of another
 module _ (t : List ℕ) (rows k x : ℕ) where

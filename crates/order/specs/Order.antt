@@ -1,12 +1,11 @@
 -- Which successor of a node comes first, from their ranks alone (01, 'The order').
 use Prim.Native.Nat.{ℕ, zero, suc, _+_, _*_, _/_, _%_, _≤_, _<_}
 use mathlib.Core.Path.{_≡_}
-use mathlib.Core.Bool.{Bool, true, cond, not, _&&_, _||_}
+use mathlib.Core.Bool.{Bool, true, cond, _||_}
 use mathlib.Core.List.{List, [], _∷_}
 use mathlib.Core.Option.{Option·getD}
 use lib.ListN.{getD}
 use lib.Dec.{eqb, leb}
-use Rattle.model.specs.Satisfaction.{every}
 use Rattle.model.specs.Order.{betterBy}
 use Rattle.model.specs.Reconciling.{best}
 
@@ -29,17 +28,13 @@ rankIn t j k = getD t (rankSlot j k) 0
 unfoldable pub betterIn : List ℕ → ℕ → ℕ → ℕ → Bool
 betterIn t rows p q = betterBy (rankIn t) (countUp rows 0) p q
 
--- no row has 255 in column k
-unfoldable pub allowedIn : List ℕ → ℕ → ℕ → Bool
-allowedIn t rows k = every (λ (j : ℕ). not (eqb (rankIn t j k) 255)) (countUp rows 0)
-
 -- column k has the byte 1 in a set
 abbrev pub inSet : List ℕ → ℕ → Bool
 inSet set k = eqb (getD set k 0) 1
 
--- of the first k columns the one that comes first among those in the set that no row forbids; 8 for none
+-- of the first k columns the one that comes first in the set; 8 for none
 unfoldable pub firstColumn : List ℕ → ℕ → List ℕ → ℕ → ℕ
-firstColumn t rows set k = Option·getD (best (λ c. inSet set c && allowedIn t rows c) (betterIn t rows) (countUp k 0)) 8
+firstColumn t rows set k = Option·getD (best (inSet set) (betterIn t rows) (countUp k 0)) 8
 
 -- r is that column
 pub record Picked (t : List ℕ) (rows : ℕ) (set : List ℕ) (k r : ℕ) : Type 0 where
@@ -77,7 +72,3 @@ pub record TwoLeast (t set : List ℕ) (k a b : ℕ) : Type 0 where
   pub in-set : a < 2048 → inSet set (a % 8) ≡ true
   pub ranked : a < 2048 → getD t (a % 8) 0 ≡ a / 8
   pub others : (c : ℕ) → c < k → inSet set c ≡ true → (keyIn t c ≡ a → ⊥) → b ≤ keyIn t c
-
--- the first k columns of kept are those of the set that no row forbids
-pub record Kept (t : List ℕ) (rows : ℕ) (set : List ℕ) (k : ℕ) (kept : List ℕ) : Type 0 where
-  pub each : (c : ℕ) → c < k → inSet kept c ≡ (inSet set c && allowedIn t rows c)

@@ -1,5 +1,5 @@
-// A node's successors by column: a successor's column, whether all are in a set, and the pick among them, which takes
-// their ranks and the set of those that can be met.
+// A node's successors by column: a successor's column, whether all are in a set, and the pick among those of a set by
+// their ranks.
 ghost use mathlib.Core.Path.{_≡_};
 ghost use Prim.Native.Nat.{_+_, _*_, _<_, _≤_, min, max};
 ghost use lib.ListN.{length};
@@ -7,7 +7,7 @@ ghost use Rattle.policies.specs.Policies.{mostPolicies};
 ghost use Rattle.schema.specs.Schema.{schemaOf, nodeAt};
 ghost use Rattle.schema.specs.Table.{NodeIn, AtMost};
 ghost use Rattle.model.specs.Satisfaction.{columnOf, every};
-ghost use Rattle.order.specs.Order.{inSet, betterIn, allowedIn, over, Keyed, TwoLeast, First, Kept, Picked};
+ghost use Rattle.order.specs.Order.{inSet, betterIn, over, Keyed, TwoLeast, First, Picked};
 use policies::MOST_POLICIES;
 use schema::MOST_NODES;
 use schema::MOST_SUCCESSORS;
@@ -16,7 +16,7 @@ use schema::MOST_SUCCESSORS;
 pub const RANKS: usize = MOST_POLICIES * MOST_SUCCESSORS;
 
 // The column of x among node n's successors, their number where it is none of them.
-pub fn column_of(schema: &[u8], table: &[usize], n: usize, x: usize) -> usize
+pub fn column_of(schema: &[u8], table: &[u16], n: usize, x: usize) -> usize
     requires { ⌜ NodeIn (now schema) (now table) n ⌝ }
     ensures { λ r. ⌜ AtMost 8 (columnOf x (nodeAt (schemaOf (now (schema .entry))) n .successors)) r ⌝ }
 {
@@ -32,7 +32,7 @@ pub fn column_of(schema: &[u8], table: &[usize], n: usize, x: usize) -> usize
 }
 
 // Whether all of node n's successors are in a set of nodes.
-pub fn all_in(schema: &[u8], table: &[usize], n: usize, nodes: &[u8; MOST_NODES]) -> bool
+pub fn all_in(schema: &[u8], table: &[u16], n: usize, nodes: &[u8; MOST_NODES]) -> bool
     requires { ⌜ NodeIn (now schema) (now table) n ⌝ }
     ensures { λ r. ⌜ r ≡ every (inSet (now (nodes .entry))) (nodeAt (schemaOf (now (schema .entry))) n .successors) ⌝ }
 {
@@ -68,22 +68,6 @@ fn is_better(ranks: &[u8; RANKS], rows: usize, p: usize, q: usize) -> bool
         j += 1;
     }
     p < q
-}
-
-// Whether no row forbids column k.
-fn is_allowed(ranks: &[u8; RANKS], rows: usize, k: usize) -> bool
-    requires { ⌜ rows ≤ mostPolicies ⌝ }
-    requires { ⌜ k < 8 ⌝ }
-    ensures { λ r. ⌜ r ≡ allowedIn (now (ranks .entry)) rows k ⌝ }
-{
-    let mut j: usize = 0;
-    while j < rows {
-        if ranks[MOST_SUCCESSORS * j + k] == 255 {
-            return false;
-        }
-        j += 1;
-    }
-    true
 }
 
 // Column k in place of x, which is 8 for none, where k is better.
@@ -169,11 +153,11 @@ fn two_least(ranks: &[u8; RANKS], columns: usize, set: &[u8; MOST_SUCCESSORS]) -
     Least { least, second }
 }
 
-// The column that comes first in a set, 8 if there is none: as a rule the first row decides.
-fn first_of(ranks: &[u8; RANKS], rows: usize, columns: usize, set: &[u8; MOST_SUCCESSORS]) -> usize
+// The column that comes first in a set, 8 if there is none, whatever the ranks: as a rule the first row decides.
+pub fn pick(ranks: &[u8; RANKS], rows: usize, columns: usize, set: &[u8; MOST_SUCCESSORS]) -> usize
     requires { ⌜ rows ≤ mostPolicies ⌝ }
     requires { ⌜ columns ≤ 8 ⌝ }
-    ensures { λ r. ⌜ First (now (ranks .entry)) rows (now (set .entry)) columns r ⌝ }
+    ensures { λ r. ⌜ Picked (now (ranks .entry)) rows (now (set .entry)) columns r ⌝ }
 {
     if 0 < rows {
         let keys = two_least(ranks, columns, set);
@@ -183,48 +167,4 @@ fn first_of(ranks: &[u8; RANKS], rows: usize, columns: usize, set: &[u8; MOST_SU
         }
     }
     first_in(ranks, rows, columns, set)
-}
-
-// The columns of a set that no row forbids.
-fn keep_allowed(
-    ranks: &[u8; RANKS],
-    rows: usize,
-    columns: usize,
-    set: &[u8; MOST_SUCCESSORS],
-    kept: &mut [u8; MOST_SUCCESSORS],
-)
-    requires { ⌜ rows ≤ mostPolicies ⌝ }
-    requires { ⌜ columns ≤ 8 ⌝ }
-    requires { ⌜ length (now kept) ≡ 8 ⌝ }
-    ensures { λ _. ⌜ Kept (now (ranks .entry)) rows (now (set .entry)) columns (now (kept .exit)) ⌝ }
-{
-    let mut k: usize = 0;
-    while k < columns {
-        if is_allowed(ranks, rows, k) {
-            kept[k] = set[k];
-            k += 1;
-        } else {
-            kept[k] = 0;
-            k += 1;
-        }
-    }
-}
-
-// The column that comes first among those in the set that no row forbids, 8 if there is none: as a rule the first of the
-// set, which is then the only one held to the rows.
-pub fn pick(ranks: &[u8; RANKS], rows: usize, columns: usize, set: &[u8; MOST_SUCCESSORS]) -> usize
-    requires { ⌜ rows ≤ mostPolicies ⌝ }
-    requires { ⌜ columns ≤ 8 ⌝ }
-    ensures { λ r. ⌜ Picked (now (ranks .entry)) rows (now (set .entry)) columns r ⌝ }
-{
-    let x = first_of(ranks, rows, columns, set);
-    if x < 8 {
-        if is_allowed(ranks, rows, x) {
-            return x;
-        }
-        let mut kept = [0u8; MOST_SUCCESSORS];
-        keep_allowed(ranks, rows, columns, set, &mut kept);
-        return first_of(ranks, rows, columns, &kept);
-    }
-    x
 }

@@ -1,6 +1,7 @@
-pub mod Values
 pub mod Tables
+pub mod Unnamed
 pub mod Picking
+pub mod Bans
 pub mod Node
 pub mod Sweep
 pub mod Reaching

@@ -1,12 +1,12 @@
 -- What is planned for some policies, as the answer and the lent arrays tell it.
-use Prim.Native.Nat.{ℕ, zero, suc, _+_}
+use Prim.Native.Nat.{ℕ, zero, suc, _+_, _≤_}
 use mathlib.Core.Path.{_≡_}
 use mathlib.Core.List.{List}
 use mathlib.Core.Option.{Option, none, some}
 use mathlib.Core.Bool.{cond}
 use lib.ListN.{length}
 use Rattle.numbers.specs.Bits.{bit}
-use Rattle.schema.specs.Schema.{Node, nodeAt}
+use Rattle.schema.specs.Schema.{Node, schemaOf, nodeAt}
 use Rattle.instances.specs.Instance.{Entry}
 use Rattle.instances.specs.File.{valuesWidth}
 use Rattle.instances.specs.Plan.{planned, nodesOf, planOf}
@@ -22,6 +22,10 @@ planFor (some i) = Feasible (nodesOf i)
 pub record Plans (g : List Node) (o : Option (List Entry)) (choices bits : List ℕ) (r : Plan) : Type 0 where
   pub answer : r ≡ planFor o
   pub holds : (i : List Entry) → o ≡ some i → planned g (planOf g choices bits) ≡ i
+
+-- room for the eligible successors of each node, whatever stands there
+pub record EligibleRoom (schema eligible : List ℕ) : Type 0 where
+  pub long : length (schemaOf schema) ≤ length eligible
 
 -- ---- how long its file is
 

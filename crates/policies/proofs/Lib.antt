@@ -1,9 +1,11 @@
 pub mod Stands
 pub mod Sound
-pub mod Index
 pub mod Nodes
 pub mod Places
 pub mod Within
 pub mod Pass
-pub mod Above
-pub mod Said
+pub mod Rows
+pub mod Widths
+pub mod Stretch
+pub mod Filled
+pub mod Noted

@@ -5,8 +5,9 @@ use mathlib.Core.Bool.{Bool, true, false, cond}
 use mathlib.Core.List.{List, [], _∷_, _++_}
 use lib.ListN.{length, getD, set, take, drop, replicate}
 use Rattle.fields.specs.Reading.{Got, got, bad}
+use Rattle.fields.specs.Shorts.{short}
 use Rattle.schema.specs.Schema.{Node, schemaOf, nodeAt}
-use Rattle.policies.specs.Policies.{Rule, Policy, ruleOf, mostPolicies, ofRules, noRule}
+use Rattle.policies.specs.Policies.{Rule, Policy, ruleOf, mostPolicies, ofRules, noRule, hasRule, ruleFor}
 use Rattle.policies.specs.Index.{ruleWidth, policyWidth}
 
 -- ---- a row for each node: how many of the selected policies name it, then where the ranks of each begin, in file order
@@ -16,10 +17,6 @@ rowSlot n = 17 * n
 
 abbrev pub offsetSlot : ℕ → ℕ → ℕ
 offsetSlot n r = rowSlot n + 1 + r
-
--- a number as two bytes hold it; every offset in an accepted file is below 65,536
-unfoldable pub short : ℕ → ℕ
-short o = o % 65536
 
 -- one more PN of node n, whose ranks begin at o
 unfoldable pub note : ℕ → ℕ → List ℕ → List ℕ
@@ -77,6 +74,11 @@ notedFrom g p t n (suc k) = rulesAt g p n (offsetsIn t n) ++ notedFrom g p t (n 
 -- of all nodes
 unfoldable pub noted : List Node → List ℕ → List ℕ → List Policy
 noted g p t = notedFrom g p t 0 (length g)
+
+-- what policies say of node n: the PN of those that have one, in order
+unfoldable pub rulesFor : ℕ → List Policy → List Rule
+rulesFor n [] = []
+rulesFor n (x ∷ xs) = cond (hasRule n (x .rules)) (ruleFor n (x .rules) ∷ rulesFor n xs) (rulesFor n xs)
 
 -- a PN of node n is read at o
 pub record RuleAt (g : List Node) (p : List ℕ) (n o : ℕ) : Type 0 where

@@ -1,34 +1,35 @@
--- What the crates above have of the reader's answer: the index belongs to the policies, a refusal to the file.
--- Rests on what the contract tells.
-use mathlib.Core.Path.{_≡_, refl, sym, _∙_}
+-- What the crates above have of the reader's answer: the policies that were read, and the rows that note those in force; or the refusal.
+-- Rests on what the contract says.
+use mathlib.Core.Path.{_≡_, sym, _∙_}
 use mathlib.Core.List.{List}
 use Prim.Native.Nat.{ℕ}
 use native.Mathlib.Omega.{arith}
 use lib.ListN.{length}
 use Rattle.fields.specs.Reading.{Got, got, bad}
+use Rattle.fields.specs.Answers.{stepOf}
+use Rattle.fields.specs.declared.Step.{Step}
+use Rattle.fields.specs.declared.Step.the-variants.{Next, Bad}
 use Rattle.schema.specs.Schema.{schemaOf}
 use Rattle.policies.specs.Policies.{Policy, policies, policiesIn, policiesOf}
-use Rattle.policies.specs.Index.{Indexed}
-use Rattle.policy_reader.specs.Answers.{policiesRead, Told}
-use Rattle.policy_reader.specs.declared.PoliciesRead.{PoliciesRead}
-use Rattle.policy_reader.specs.declared.PoliciesRead.the-variants.{Policies, Refused}
+use Rattle.policies.specs.Pass.{inForce}
+use Rattle.policies.specs.Rows.{rowsOf}
+use Rattle.policy_reader.specs.Answers.{YieldsPolicies}
 
-read-count : (r : Got (List Policy)) {n : ℕ} → Policies n ≡ policiesRead r → (q : ℕ) × (r ≡ got (policiesIn r) q) × (n ≡ length (policiesIn r))
-read-count (got ps q) e = (q, refl, (cc))
-read-count (bad m o) e = absurd (let z : _≡_ {A = ℕ} 0 1 = cc in omega arith)
+read-next : (r : Got (List Policy)) {q : ℕ} → Next q ≡ stepOf r → r ≡ got (policiesIn r) q
+read-next (got ps p) e = cc
+read-next (bad m o) e = absurd (let z : _≡_ {A = ℕ} 0 1 = cc in omega arith)
 
-read-refused : (r : Got (List Policy)) {m o : ℕ} → Refused m o ≡ policiesRead r → r ≡ bad m o
-read-refused (got ps q) e = absurd (let z : _≡_ {A = ℕ} 0 1 = cc in omega arith)
-read-refused (bad m o) e = cc
+read-bad : (r : Got (List Policy)) {m o : ℕ} → Bad m o ≡ stepOf r → r ≡ bad m o
+read-bad (got ps p) e = absurd (let z : _≡_ {A = ℕ} 0 1 = cc in omega arith)
+read-bad (bad m o) e = cc
 
-module _ (schema p t : List ℕ) {f : PoliciesRead} (w : Told schema p f t) where
-  pub accepted-policies : {n : ℕ} → f ≡ Policies n → (q : ℕ) × (policies (schemaOf schema) p ≡ got (policiesOf (schemaOf schema) p) q)
+module _ (schema p : List ℕ) (a b : ℕ) (t : List ℕ) {f : Step} (w : YieldsPolicies schema p a b f t) where
+  pub accepted-policies : {q : ℕ} → f ≡ Next q → policies (schemaOf schema) p ≡ got (policiesOf (schemaOf schema) p) q
   unfolding policiesOf
-  accepted-policies e = let r = read-count (policies (schemaOf schema) p) (sym e ∙ w .answer) in (r .0, r .1)
+  accepted-policies e = read-next (policies (schemaOf schema) p) (sym e ∙ w .answer)
 
-  pub indexed : {n : ℕ} → f ≡ Policies n → Indexed schema p t n
-  unfolding policiesOf
-  indexed e = record { index = w .index; counted = read-count (policies (schemaOf schema) p) (sym e ∙ w .answer) .2 }
+  pub rows-in-force : {q : ℕ} → f ≡ Next q → t ≡ rowsOf (inForce a b) (length t) (policiesOf (schemaOf schema) p)
+  rows-in-force {q} e = w .rows (policiesOf (schemaOf schema) p) q (accepted-policies e)
 
-  pub refused-policies : {m o : ℕ} → f ≡ Refused m o → policies (schemaOf schema) p ≡ bad m o
-  refused-policies e = read-refused (policies (schemaOf schema) p) (sym e ∙ w .answer)
+  pub refused-policies : {m o : ℕ} → f ≡ Bad m o → policies (schemaOf schema) p ≡ bad m o
+  refused-policies e = read-bad (policies (schemaOf schema) p) (sym e ∙ w .answer)

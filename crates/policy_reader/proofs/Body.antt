@@ -1,35 +1,33 @@
--- A PN is read to its end if, and only if, its bytes are all there and its masks fit: so one test of the length, and of each mask, will do.
--- Rests on the definitions of the readings, on policies' Stands for the way back, and on schema's Accepted for the number of a node's variables.
+-- A PN is read to its end if its bytes are all there and its masks fit: so one test of the length, and of each mask, will do.
+-- Rests on the definitions of the readings and of the table's slots, and on schema's Accepted for the number of a node's variables.
 use mathlib.Core.Path.{_≡_, refl, ap, sym, _∙_}
-use mathlib.Core.Bool.{Bool, true, false, cond, _&&_}
+use mathlib.Core.Bool.{Bool, true, false, _&&_, _||_}
 use mathlib.Core.List.{List, [], _∷_}
-use Prim.Native.Nat.{ℕ, zero, suc, _+_, _-_, _*_, _^_, _/_, _%_, _≤_, _<_}
+use Prim.Native.Nat.{ℕ, zero, suc, _+_, _-_, _*_, _^_, _≤_, _<_}
 use native.Mathlib.Omega.{arith}
 use native.Mathlib.Nat.{add-zero}
 use native.Mathlib.Decide.{decLt}
-use borrow.Author.Tests.{leb-true, leb-false, le-leb, lt-leb, lt-ltb, ltb-true}
+use borrow.Author.Tests.{leb-true, le-leb, lt-leb, lt-ltb, ltb-true, eq-eqb, ne-eqb, eqb-true}
 use lib.ListN.{length, getD}
-use lib.Dec.{leb}
-use lib.Pow.{pow-pos, pow-mono}
+use lib.Dec.{leb, ltb, eqb}
 use mir.Val.{Fits}
 use mir.Syntax.{w64}
 use Rattle.fields.specs.Reading.{got, part, be, whole, field, many, signed}
 use Rattle.fields.specs.Answers.{stepOf}
 use Rattle.fields.specs.declared.Step.the-variants.{Next}
 use Rattle.fields.proofs.Reading.{whole-got}
-use Rattle.fields.proofs.Bytes.{Bytes, be-below}
-use Rattle.fields.proofs.Tests.{and-true, and-yes, and-no, never}
-use Rattle.numbers.specs.Bits.{ones}
-use Rattle.schema.specs.Schema.{Node, schemaOf, nodeAt, noVariable, isNumber}
+use Rattle.fields.proofs.Tests.{and-true, and-no, and-no-2, and-yes, or-yes}
+use Rattle.numbers.proofs.Bits.{spare-within}
+use Rattle.schema.specs.Schema.{Node, schemaOf, nodeAt, noVariable}
 use Rattle.schema.specs.declared.Variable.{Variable}
 use Rattle.schema.specs.declared.Variable.the-variants.{Number, Listed}
-use Rattle.schema.specs.Layout.{rankCount, span, spans, offsetOf}
+use Rattle.schema.specs.Layout.{rankCount, span, spans, offsetOf, ruleLength, masksOf, maskSkip, spareOf, spareAt, Laid}
 use Rattle.schema.proofs.Accepted.{file-of, view}
-use Rattle.policies.specs.Policies.{Condition, range, mask, Rule, ranks, condition, conditions, ruleOf}
-use Rattle.policies.specs.Index.{conditionWidth, conditionsWidth}
-use Rattle.policy_reader.specs.Body.{mostOf, shapeFrom, shapeOf, Laid, noneOver, Looking}
+use Rattle.schema.proofs.Access.{laid}
+use Rattle.policies.specs.Policies.{Condition, range, mask, PN, ranks, condition, conditions, ruleOf}
+use Rattle.policies.specs.Index.{SchemaIn}
 use Rattle.policies.proofs.Nodes.{nodes-few}
-use Rattle.policies.proofs.Stands.{ConditionAt, width-span, ConditionsAt, none, more, Ruled}
+use Rattle.policy_reader.specs.Body.{masksFit, Looking, isWhole, isGood, isBare, Shape, Shapes}
 
 -- the bytes of a node's ranks and conditions
 unfoldable bodyWidth : Node → ℕ
@@ -86,95 +84,7 @@ body-there s x n p h m =
         → Fit s (p + rankCount x + spans k (x .variables)) (getD (x .variables) k noVariable)
     next k f = let e : p + rankCount x + spans k (x .variables) ≡ p + (rankCount x + spans k (x .variables)) = omega arith in rw e f
 
--- ---- back: of a PN that was read, the width follows from the schema, and no mask is over
-
-conditions-span : {s : List ℕ} {p : ℕ} {vs : List Variable} {cs : List Condition} → ConditionsAt s p vs cs → conditionsWidth cs ≡ spans (length vs) vs
-unfolding conditionsWidth spans
-conditions-span none = refl
-conditions-span {s} {p} (more {v = v} {vs} {c} {cs} a r) = omega (arith, width-span s p v c a, conditions-span r)
-
-condition-most : (s : List ℕ) (p : ℕ) (v : Variable) (c : Condition) → Bytes s → ConditionAt s p v c → be 4 s p ≤ mostOf v
-unfolding mostOf ones
-condition-most s p (Number lo hi) c f r = omega (arith, be-below 4 s p f)
-condition-most s p (Listed size) c f r = go (leb size 32)
-  where
-    go : (b : Bool) → be 4 s p ≤ cond b (2 ^ size - 1) 4294967295
-    go true = omega (arith, ltb-true (be 4 s p) (2 ^ size) (r .within))
-    go false = omega (arith, be-below 4 s p f)
-
-conditions-most : {s : List ℕ} {p : ℕ} {vs : List Variable} {cs : List Condition} → Bytes s → ConditionsAt s p vs cs → (k : ℕ) → k < length vs
-    → be 4 s (p + spans k vs) ≤ mostOf (getD vs k noVariable)
-unfolding spans
-conditions-most f none k h = absurd (omega arith)
-conditions-most {s} {p} f (more {v = v} {vs} {c} {cs} a r) zero h = rw (add-zero p) (condition-most s p v c f a)
-conditions-most {s} {p} f (more {v = v} {vs} {c} {cs} a r) (suc k) h =
-    let e : p + (span v + spans k vs) ≡ p + conditionWidth c + spans k vs = omega (arith, width-span s p v c a) in
-    rw e (conditions-most f r k (omega arith))
-
--- ---- a node's shape tells the width, and up to where there are masks
-
-shape-half : (vs : List Variable) (w k f : ℕ) → f ≤ k → k + length vs ≤ 4 → shapeFrom vs w k f / 8 ≡ w + spans (length vs) vs
-unfolding shapeFrom spans span
-shape-half [] w k f a b = omega arith
-shape-half (Number lo hi ∷ vs) w k f a b =
-    shape-half vs (w + 8) (k + 1) f (omega arith) (omega arith) ∙ (let z : w + 8 + spans (length vs) vs ≡ w + (8 + spans (length vs) vs) = omega arith in z)
-shape-half (Listed size ∷ vs) w k f a b =
-    shape-half vs (w + 4) (k + 1) (k + 1) (omega arith) (omega arith) ∙ (let z : w + 4 + spans (length vs) vs ≡ w + (4 + spans (length vs) vs) = omega arith in z)
-
-record Looks (f m l : ℕ) : Type 0 where
-  pub least : f ≤ l
-  pub most : l ≤ m
-
-shape-looks : (vs : List Variable) (w k f : ℕ) → f ≤ k → k + length vs ≤ 4 → Looks f (k + length vs) (shapeFrom vs w k f % 8)
-unfolding shapeFrom
-shape-looks [] w k f a b = record { least = omega arith; most = omega arith }
-shape-looks (Number lo hi ∷ vs) w k f a b =
-    let r = shape-looks vs (w + 8) (k + 1) f (omega arith) (omega arith) in
-    record { least = r .least; most = omega (arith, r .most) }
-shape-looks (Listed size ∷ vs) w k f a b =
-    let r = shape-looks vs (w + 4) (k + 1) (k + 1) (omega arith) (omega arith) in
-    record { least = omega (arith, r .least); most = omega (arith, r .most) }
-
--- the variables after those are numbers
-shape-numbers : (vs : List Variable) (w k f : ℕ) → f ≤ k → k + length vs ≤ 4 → (i : ℕ) → i < length vs → shapeFrom vs w k f % 8 ≤ k + i
-    → isNumber (getD vs i noVariable) ≡ true
-unfolding shapeFrom
-shape-numbers [] w k f a b i l h = absurd (omega arith)
-shape-numbers (Number lo hi ∷ vs) w k f a b zero l h = refl
-shape-numbers (Number lo hi ∷ vs) w k f a b (suc i) l h = shape-numbers vs (w + 8) (k + 1) f (omega arith) (omega arith) i (omega arith) (omega arith)
-shape-numbers (Listed size ∷ vs) w k f a b zero l h =
-    absurd (let r = shape-looks vs (w + 4) (k + 1) (k + 1) (omega arith) (omega arith) .least in omega arith)
-shape-numbers (Listed size ∷ vs) w k f a b (suc i) l h = shape-numbers vs (w + 4) (k + 1) (k + 1) (omega arith) (omega arith) i (omega arith) (omega arith)
-
--- ---- what the code's tests show
-
-over-at : (t s : List ℕ) (n p k : ℕ) → noneOver t s n p k ≡ true → (i : ℕ) → i < k
-    → be 4 s (p + getD t (2 + 16 * n + 2 * i) 0) ≤ getD t (2 + 16 * n + 2 * i + 1) 0
-unfolding noneOver
-over-at t s n p zero e i l = absurd (omega arith)
-over-at t s n p (suc k) e i l =
-    let both = and-true (leb (be 4 s (p + getD t (2 + 16 * n + 2 * k) 0)) (getD t (2 + 16 * n + 2 * k + 1) 0)) (noneOver t s n p k) e in
-    go (leb-true (be 4 s (p + getD t (2 + 16 * n + 2 * k) 0)) (getD t (2 + 16 * n + 2 * k + 1) 0) (both .0)) (over-at t s n p k (both .1) i) (decLt i k)
-  where
-    go : be 4 s (p + getD t (2 + 16 * n + 2 * k) 0) ≤ getD t (2 + 16 * n + 2 * k + 1) 0
-        → (i < k → be 4 s (p + getD t (2 + 16 * n + 2 * i) 0) ≤ getD t (2 + 16 * n + 2 * i + 1) 0) → Dec (i < k)
-        → be 4 s (p + getD t (2 + 16 * n + 2 * i) 0) ≤ getD t (2 + 16 * n + 2 * i + 1) 0
-    go a f (yes h) = f h
-    go a f (no h) = let z : k ≡ i = omega arith in rw z at a
-
--- a number that does not exceed the greatest fits
-fit-most : (s : List ℕ) (p : ℕ) (v : Variable) → be 4 s p ≤ mostOf v → Fit s p v
-unfolding mostOf ones
-fit-most s p (Number lo hi) h = tt
-fit-most s p (Listed size) h = go (leb size 32) refl h
-  where
-    go : (b : Bool) → leb size 32 ≡ b → be 4 s p ≤ cond b (2 ^ size - 1) 4294967295 → be 4 s p < 2 ^ size
-    go true e h = let z = pow-pos size in omega arith
-    go false e h = let l : 32 ≤ size = let m = leb-false size 32 e in omega arith in let z : 2 ^ 32 ≤ 2 ^ size = pow-mono l in omega arith
-
-fit-number : (s : List ℕ) (p : ℕ) (v : Variable) → isNumber v ≡ true → Fit s p v
-fit-number s p (Number lo hi) e = tt
-fit-number s p (Listed size) e = never e
+-- ---- the slots of the table
 
 -- a condition has four bytes at least
 span-least : (v : Variable) → 4 ≤ span v
@@ -182,127 +92,215 @@ unfolding span
 span-least (Number lo hi) = omega arith
 span-least (Listed size) = omega arith
 
-span-room : (vs : List Variable) (k : ℕ) → k < length vs → spans k vs + 4 ≤ spans (length vs) vs
-unfolding spans
-span-room [] k l = absurd (omega arith)
-span-room (v ∷ vs) zero l = omega (arith, span-least v)
-span-room (v ∷ vs) (suc k) l = omega (arith, span-room vs k (omega arith))
+masks-some : (vs : List Variable) → (masksOf vs ≡ 0 → ⊥) → 0 < length vs
+unfolding masksOf
+masks-some [] h = absurd (h refl)
+masks-some (v ∷ vs) h = omega arith
 
-pub variables-few : (s : List ℕ) (n : ℕ) → n < length (schemaOf s) → length (nodeAt (schemaOf s) n .variables) ≤ 4
+-- where a node has variables the bytes at each mask's slot are there
+skip-room : (vs : List Variable) (w k : ℕ) → 0 < length vs → maskSkip vs w k + 4 ≤ w + spans (length vs) vs
+unfolding maskSkip spans
+skip-room [] w k h = absurd (omega arith)
+skip-room (Number lo hi ∷ vs) w zero h = omega (arith, span-least (Number lo hi))
+skip-room (Listed size ∷ vs) w zero h = omega (arith, span-least (Listed size))
+skip-room (v ∷ []) w (suc k) h = omega (arith, span-least v)
+skip-room (v ∷ u ∷ vs) w (suc k) h = omega (arith, skip-room (u ∷ vs) (w + span v) k (omega arith))
+
+spare-most : (vs : List Variable) (k : ℕ) → spareAt vs k ≤ 32
+unfolding spareAt spareOf
+spare-most [] k = omega arith
+spare-most (Number lo hi ∷ vs) zero = omega arith
+spare-most (Listed size ∷ vs) zero = omega arith
+spare-most (v ∷ vs) (suc k) = spare-most vs k
+
+-- a mask with no spare bit fits
+fit-spare : (s : List ℕ) (p : ℕ) (vs : List Variable) (w k : ℕ) → k < length vs → be 4 s (p + maskSkip vs w k) * 2 ^ spareAt vs k < 2 ^ 32
+    → Fit s (p + (w + spans k vs)) (getD vs k noVariable)
+unfolding maskSkip spareAt spareOf spans
+fit-spare s p [] w k l h = absurd (omega arith)
+fit-spare s p (Number lo hi ∷ vs) w zero l h = tt
+fit-spare s p (Listed size ∷ vs) w zero l h = rw (add-zero w) (spare-within (be 4 s (p + w)) size h)
+fit-spare s p (v ∷ vs) w (suc k) l h =
+    let e : w + (span v + spans k vs) ≡ w + span v + spans k vs = omega arith in
+    rw e (fit-spare s p vs (w + span v) k (omega arith) h)
+
+-- where there is no mask all variables are numbers
+fit-none : (s : List ℕ) (p : ℕ) (vs : List Variable) (k : ℕ) → k < length vs → masksOf vs ≡ 0 → Fit s p (getD vs k noVariable)
+unfolding masksOf
+fit-none s p [] k l h = absurd (omega arith)
+fit-none s p (Number lo hi ∷ vs) zero l h = tt
+fit-none s p (Number lo hi ∷ vs) (suc k) l h = fit-none s p vs k (omega arith) h
+fit-none s p (Listed size ∷ vs) k l h = absurd (omega arith)
+
+variables-few : (s : List ℕ) (n : ℕ) → n < length (schemaOf s) → length (nodeAt (schemaOf s) n .variables) ≤ 4
 variables-few s n h = view s (file-of s (omega arith)) n h .few-variables
 
-module _ (schema : List ℕ) (t : List ℕ) (n : ℕ) (w : Laid (schemaOf schema) (length (schemaOf schema)) t) (b : n < length (schemaOf schema)) where
+-- ---- what the code's tests show
+
+pub whole-inside : (s : List ℕ) (w p : ℕ) → isWhole s w p ≡ true → (w ≤ length s - p) × (be 2 s p ≡ be 2 PN 0)
+unfolding isWhole
+whole-inside s w p e =
+    let both = and-true (leb w (length s - p)) (eqb (be 2 s p) (be 2 PN 0)) e in
+    (leb-true w (length s - p) (both .0), eqb-true (be 2 s p) (be 2 PN 0) (both .1))
+
+fits-at : (t s : List ℕ) (n p k : ℕ) → masksFit t s n p k ≡ true → (i : ℕ) → i < k → be 4 s (p + getD t (16 * n + 8 + i) 0) * 2 ^ getD t (16 * n + 12 + i) 0 < 2 ^ 32
+unfolding masksFit
+fits-at t s n p zero e i l = absurd (omega arith)
+fits-at t s n p (suc k) e i l =
+    let both = and-true (ltb (be 4 s (p + getD t (16 * n + 8 + k) 0) * 2 ^ getD t (16 * n + 12 + k) 0) (2 ^ 32)) (masksFit t s n p k) e in
+    go (ltb-true (be 4 s (p + getD t (16 * n + 8 + k) 0) * 2 ^ getD t (16 * n + 12 + k) 0) (2 ^ 32) (both .0)) (fits-at t s n p k (both .1) i) (decLt i k)
+  where
+    go : be 4 s (p + getD t (16 * n + 8 + k) 0) * 2 ^ getD t (16 * n + 12 + k) 0 < 2 ^ 32 → (i < k → be 4 s (p + getD t (16 * n + 8 + i) 0) * 2 ^ getD t (16 * n + 12 + i) 0 < 2 ^ 32) → Dec (i < k) → be 4 s (p + getD t (16 * n + 8 + i) 0) * 2 ^ getD t (16 * n + 12 + i) 0 < 2 ^ 32
+    go a f (yes h) = f h
+    go a f (no h) = let z : k ≡ i = omega arith in rw z at a
+
+module _ (schema t : List ℕ) (n : ℕ) (w : Laid (schemaOf schema) t) (b : n < length (schemaOf schema)) where
   abbrev node : Node
   node = nodeAt (schemaOf schema) n
 
-  few : 0 + length (node .variables) ≤ 4
-  few = omega (arith, variables-few schema n b)
+  width-is : getD t (16 * n + 5) 0 ≡ 3 + bodyWidth node
+  unfolding ruleLength bodyWidth
+  width-is = w .each n b .length-is
 
-  half-is : getD t (16 * n) 0 / 8 ≡ bodyWidth node
-  unfolding bodyWidth offsetOf shapeOf
-  half-is = ap (λ (i : ℕ). i / 8) (w .each n b .shape) ∙ shape-half (node .variables) (rankCount node) 0 0 (omega arith) few
-
-  looks-few : getD t (16 * n) 0 % 8 ≤ length (node .variables)
-  unfolding shapeOf
-  looks-few =
-      let r = shape-looks (node .variables) (rankCount node) 0 0 (omega arith) few .most in
-      omega (arith, ap (λ (i : ℕ). i % 8) (w .each n b .shape))
-
-  module _ (s : List ℕ) (p : ℕ) {shape : ℕ} (q : shape ≡ getD t (16 * n) 0) (h : p ≤ length s) (l : shape / 8 ≤ length s - p) where
-    half : shape / 8 ≡ bodyWidth node
-    half = ap (λ (i : ℕ). i / 8) q ∙ half-is
-
-    looks : shape % 8 ≤ length (node .variables)
-    looks = omega (arith, ap (λ (i : ℕ). i % 8) q, looks-few)
-
-    pub body-looking : Looking t s n (shape % 8) p
-    unfolding bodyWidth offsetOf
-    body-looking =
-        record {
-          node = omega (arith, b, nodes-few schema);
-          long = omega (arith, b, w .long);
-          few = omega (arith, looks, few);
-          there = λ i k.
-              let o = w .each n b .at i (omega (arith, looks)) in
-              omega (arith, half, span-room (node .variables) i (omega (arith, looks)));
-        }
-
-    pub body-read : {v : Bool} → v ≡ noneOver t s n p (shape % 8) → v ≡ true → Next (p + shape / 8) ≡ stepOf (ruleOf s node n p)
-    unfolding shapeOf
-    body-read e z =
-        ap (λ (i : ℕ). Next (p + i)) half
-        ∙ body-there s node n p (omega (arith, half)) (λ k m. fits k m (decLt k (shape % 8)))
-      where
-        fits : (k : ℕ) → k < length (node .variables) → Dec (k < shape % 8) → Fit s (p + offsetOf node k) (getD (node .variables) k noVariable)
-        fits k m (yes y) =
-            let o = over-at t s n p (shape % 8) (sym e ∙ z) k y in
-            let d = w .each n b in
-            fit-most s (p + offsetOf node k) (getD (node .variables) k noVariable) (rw (d .at k m, d .most k m) at o)
-        fits k m (no y) =
-            fit-number s (p + offsetOf node k) (getD (node .variables) k noVariable)
-            (shape-numbers (node .variables) (rankCount node) 0 0 (omega arith) few k m
-            (let d = ap (λ (i : ℕ). i % 8) (q ∙ w .each n b .shape) in omega arith))
-
-  -- back
-  module _ (s : List ℕ) (p : ℕ) {shape : ℕ} (q : shape ≡ getD t (16 * n) 0) {x : Rule} {e : ℕ} (r : Ruled s node n p x e) where
-    pub body-end : e ≡ p + shape / 8
-    unfolding bodyWidth offsetOf
-    body-end = omega (arith, r .next, r .count, conditions-span (r .conditions), ap (λ (i : ℕ). i / 8) q, half-is)
-
-    below-most : Bytes s → (k : ℕ) → k < length (node .variables) → be 4 s (p + getD t (2 + 16 * n + 2 * k) 0) ≤ getD t (2 + 16 * n + 2 * k + 1) 0
-    unfolding offsetOf
-    below-most f k m =
-        let d = w .each n b in
-        let z : p + (rankCount node + spans k (node .variables)) ≡ p + length (x .ranks) + spans k (node .variables) = omega (arith, r .count) in
-        rw (d .at k m, d .most k m, z) (conditions-most f (r .conditions) k m)
-
-    pub body-over : Bytes s → (k : ℕ) → k ≤ shape % 8 → noneOver t s n p k ≡ true
-    unfolding noneOver
-    body-over f zero h = refl
-    body-over f (suc k) h =
-        and-yes
-        (le-leb (be 4 s (p + getD t (2 + 16 * n + 2 * k) 0)) (getD t (2 + 16 * n + 2 * k + 1) 0)
-        (below-most f k (omega (arith, ap (λ (i : ℕ). i % 8) q, looks-few))))
-        (body-over f k (omega arith))
-
--- ---- the loop over the conditions looked at, from the last: what is left equals the whole
-
-pub record Looked (t s : List ℕ) (n p looks k : ℕ) : Type 0 where
-  pub upto : k ≤ looks
-  pub left : noneOver t s n p k ≡ noneOver t s n p looks
-
-pub over-start : (t s : List ℕ) (n p looks : ℕ) → Looked t s n p looks looks
-over-start t s n p looks = record { upto = omega arith; left = refl }
-
-module _ (t s : List ℕ) (n p looks k : ℕ) (i : Looked t s n p looks k) (l : 0 < k) where
-  module _ (w : Looking t s n looks p) where
-    pub over-there : p + getD t (2 + 16 * n + 2 * (k - 1)) 0 + 4 ≤ length s
-    over-there = w .there (k - 1) (omega (arith, i .upto))
-
-    pub over-cast : length s < 2 ^ 64 → Fits w64 (getD t (2 + 16 * n + 2 * (k - 1)) 0)
-    over-cast m = record { fits = omega (arith, over-there) }
-
-    pub over-fits : length s < 2 ^ 64 → Fits w64 (p + getD t (2 + 16 * n + 2 * (k - 1)) 0)
-    over-fits m = record { fits = omega (arith, over-there) }
-
-  last : (leb (be 4 s (p + getD t (2 + 16 * n + 2 * (k - 1)) 0)) (getD t (2 + 16 * n + 2 * (k - 1) + 1) 0) && noneOver t s n p (k - 1)) ≡ noneOver t s n p looks
-  unfolding noneOver
-  last = ap (noneOver t s n p) (let z : suc (k - 1) ≡ k = omega arith in z) ∙ i .left
-
-  pub over-bad : {u : ℕ} → u ≡ be 4 s (p + getD t (2 + 16 * n + 2 * (k - 1)) 0) → getD t (2 + 16 * n + 2 * (k - 1) + 1) 0 < u → false ≡ noneOver t s n p looks
-  over-bad e h = sym (and-no (noneOver t s n p (k - 1)) (lt-leb (be 4 s (p + getD t (2 + 16 * n + 2 * (k - 1)) 0)) (getD t (2 + 16 * n + 2 * (k - 1) + 1) 0) (omega arith))) ∙ last
-
-  pub over-more : {u : ℕ} → u ≡ be 4 s (p + getD t (2 + 16 * n + 2 * (k - 1)) 0) → u ≤ getD t (2 + 16 * n + 2 * (k - 1) + 1) 0 → Looked t s n p looks (k - 1)
-  over-more e h =
+  pub shape-of : Shape t n
+  unfolding bodyWidth offsetOf
+  shape-of =
       record {
-        upto = omega (arith, i .upto);
-        left =
-            ap (λ (b : Bool). b && noneOver t s n p (k - 1))
-            (sym (le-leb (be 4 s (p + getD t (2 + 16 * n + 2 * (k - 1)) 0)) (getD t (2 + 16 * n + 2 * (k - 1) + 1) 0) (omega arith)))
-            ∙ last;
+        long = omega (arith, w .long);
+        least = omega (arith, width-is);
+        there = λ k l h.
+            let z = skip-room (node .variables) (rankCount node) k (masks-some (node .variables) (λ e. h (w .each n b .masks ∙ e))) in
+            omega (arith, width-is, w .each n b .skip k l);
+        spare = λ k l. omega (arith, w .each n b .spare k l, spare-most (node .variables) k);
       }
 
-pub over-done : (t s : List ℕ) (n p looks k : ℕ) → Looked t s n p looks k → k ≤ 0 → true ≡ noneOver t s n p looks
-unfolding noneOver
-over-done t s n p looks zero i h = i .left
-over-done t s n p looks (suc k) i h = absurd (omega arith)
+  -- a PN that passes is read to its end
+  pub good-read : (s : List ℕ) (p : ℕ) → isGood t s n p ≡ true → p ≤ length s → Next (p + getD t (16 * n + 5) 0) ≡ stepOf (ruleOf s node n (p + 3))
+  unfolding isGood offsetOf
+  good-read s p e l =
+      let both = and-true (isWhole s (getD t (16 * n + 5) 0) p) (eqb (getD t (16 * n + 6) 0) 0 || masksFit t s n (p + 3) 4) e in
+      let i = whole-inside s (getD t (16 * n + 5) 0) p (both .0) .0 in
+      let q : p + getD t (16 * n + 5) 0 ≡ p + 3 + bodyWidth node = omega (arith, width-is) in
+      ap Next q ∙ body-there s node n (p + 3) (omega (arith, width-is)) (fits (eqb (getD t (16 * n + 6) 0) 0) refl (both .1))
+    where
+      spared : (k : ℕ) → k < length (node .variables) → k < 4 → be 4 s (p + 3 + getD t (16 * n + 8 + k) 0) * 2 ^ getD t (16 * n + 12 + k) 0 < 2 ^ 32
+          → Fit s (p + 3 + offsetOf node k) (getD (node .variables) k noVariable)
+      spared k l m h = fit-spare s (p + 3) (node .variables) (rankCount node) k l (rw (w .each n b .skip k m, w .each n b .spare k m) at h)
+
+      fits : (m : Bool) → eqb (getD t (16 * n + 6) 0) 0 ≡ m → (m || masksFit t s n (p + 3) 4) ≡ true
+          → (k : ℕ) → k < length (node .variables) → Fit s (p + 3 + offsetOf node k) (getD (node .variables) k noVariable)
+      fits true e h k l =
+          fit-none s (p + 3 + offsetOf node k) (node .variables) k l (sym (w .each n b .masks) ∙ eqb-true (getD t (16 * n + 6) 0) 0 e)
+      fits false e h k l = spared k l (let z = variables-few schema n b in omega arith) (fits-at t s n (p + 3) 4 h k (let z = variables-few schema n b in omega arith))
+
+pub shapes-of : (schema t : List ℕ) {count : ℕ} → SchemaIn schema t count → Shapes t count
+shapes-of schema t c =
+    let w = laid schema t (c .table) in
+    record { few = omega (arith, c .counted, nodes-few schema); long = omega (arith, c .counted, w .long); each = λ n l. shape-of schema t n w (omega (arith, c .counted)) }
+
+-- ---- the tests
+
+pub whole-short : (s : List ℕ) (w p : ℕ) → length s - p < w → false ≡ isWhole s w p
+unfolding isWhole
+whole-short s w p h = sym (and-no (eqb (be 2 s p) (be 2 PN 0)) (lt-leb w (length s - p) h))
+
+pub whole-marked : (s : List ℕ) (w p : ℕ) {m : Bool} → w ≤ length s - p → m ≡ eqb (be 2 s p) (be 2 PN 0) → m ≡ isWhole s w p
+unfolding isWhole
+whole-marked s w p h e = rw (le-leb w (length s - p) h) e
+
+module _ (t s : List ℕ) (n p : ℕ) {v : Bool} (e : v ≡ isWhole s (getD t (16 * n + 5) 0) p) where
+  pub good-not : v ≡ false → false ≡ isGood t s n p
+  unfolding isGood
+  good-not h = sym (and-no (eqb (getD t (16 * n + 6) 0) 0 || masksFit t s n (p + 3) 4) (sym e ∙ h))
+
+  module _ (h : v ≡ true) where
+    pub good-bare : getD t (16 * n + 6) 0 ≡ 0 → true ≡ isGood t s n p
+    unfolding isGood
+    good-bare z = sym (and-yes (sym e ∙ h) (or-yes (masksFit t s n (p + 3) 4) (eq-eqb (getD t (16 * n + 6) 0) 0 z)))
+
+    pub good-masks : (getD t (16 * n + 6) 0 ≡ 0 → ⊥) → {u : Bool} → u ≡ masksFit t s n (p + 3) 4 → u ≡ isGood t s n p
+    unfolding isGood
+    good-masks z d = rw (sym e ∙ h, ne-eqb (getD t (16 * n + 6) 0) 0 z) d
+
+    module _ (w : Shape t n) where
+      whole-there : p + getD t (16 * n + 5) 0 ≤ length s
+      whole-there = let j = whole-inside s (getD t (16 * n + 5) 0) p (sym e ∙ h) .0 in omega (arith, w .least)
+
+      pub good-looking : (getD t (16 * n + 6) 0 ≡ 0 → ⊥) → Looking t s n (p + 3)
+      good-looking z = record { long = w .long; there = λ k l. omega (arith, w .there k l z, whole-there); spare = w .spare }
+
+      pub bare-there : p + 2 < length s
+      bare-there = omega (arith, w .least, whole-there)
+
+  module _ (z : getD t (16 * n + 6) 0 ≡ 0) where
+    pub bare-not : v ≡ false → false ≡ isBare t s n p
+    unfolding isBare
+    bare-not h = sym (and-no-2 (eq-eqb (getD t (16 * n + 6) 0) 0 z) (and-no (eqb (getD s (p + 2) 0) n) (sym e ∙ h)))
+
+    pub bare-node : v ≡ true → {b : ℕ} → b ≡ getD s (p + 2) 0 → eqb b n ≡ isBare t s n p
+    unfolding isBare
+    bare-node h j = rw (eq-eqb (getD t (16 * n + 6) 0) 0 z, sym e ∙ h) (ap (λ (i : ℕ). eqb i n) j)
+
+pub bare-masked : (t s : List ℕ) (n p : ℕ) → (getD t (16 * n + 6) 0 ≡ 0 → ⊥) → false ≡ isBare t s n p
+unfolding isBare
+bare-masked t s n p z = sym (and-no (isWhole s (getD t (16 * n + 5) 0) p && eqb (getD s (p + 2) 0) n) (ne-eqb (getD t (16 * n + 6) 0) 0 z))
+
+-- back
+pub record Bare (t s : List ℕ) (n p : ℕ) : Type 0 where
+  pub masks : getD t (16 * n + 6) 0 ≡ 0
+  pub whole : isWhole s (getD t (16 * n + 5) 0) p ≡ true
+  pub node : getD s (p + 2) 0 ≡ n
+
+pub bare-back : (t s : List ℕ) (n p : ℕ) → isBare t s n p ≡ true → Bare t s n p
+unfolding isBare
+bare-back t s n p e =
+    let a = and-true (eqb (getD t (16 * n + 6) 0) 0) (isWhole s (getD t (16 * n + 5) 0) p && eqb (getD s (p + 2) 0) n) e in
+    let b = and-true (isWhole s (getD t (16 * n + 5) 0) p) (eqb (getD s (p + 2) 0) n) (a .1) in
+    record { masks = eqb-true (getD t (16 * n + 6) 0) 0 (a .0); whole = b .0; node = eqb-true (getD s (p + 2) 0) n (b .1) }
+
+-- ---- the loop over the masks, from the last: what is left equals the whole
+
+pub record Looked (t s : List ℕ) (n p k : ℕ) : Type 0 where
+  pub upto : k ≤ 4
+  pub left : masksFit t s n p k ≡ masksFit t s n p 4
+
+pub masks-init : (t s : List ℕ) (n p : ℕ) → Looked t s n p 4
+masks-init t s n p = record { upto = omega arith; left = refl }
+
+module _ (t s : List ℕ) (n p k : ℕ) (i : Looked t s n p k) (l : 0 < k) where
+  module _ (w : Looking t s n p) where
+    pub mask-spare : getD t (16 * n + 12 + (k - 1)) 0 ≤ 32
+    mask-spare = w .spare (k - 1) (omega (arith, i .upto))
+
+    pub mask-there : p + getD t (16 * n + 8 + (k - 1)) 0 + 4 ≤ length s
+    mask-there = w .there (k - 1) (omega (arith, i .upto))
+
+    pub mask-fits : length s < 2 ^ 64 → Fits w64 (p + getD t (16 * n + 8 + (k - 1)) 0)
+    mask-fits m = record { fits = omega (arith, mask-there) }
+
+  abbrev last : Bool
+  last = ltb (be 4 s (p + getD t (16 * n + 8 + (k - 1)) 0) * 2 ^ getD t (16 * n + 12 + (k - 1)) 0) (2 ^ 32)
+
+  whole-is : (last && masksFit t s n p (k - 1)) ≡ masksFit t s n p 4
+  unfolding masksFit
+  whole-is = ap (masksFit t s n p) (let z : suc (k - 1) ≡ k = omega arith in z) ∙ i .left
+
+  module _ {u : ℕ} {v : Bool} (e : u ≡ be 4 s (p + getD t (16 * n + 8 + (k - 1)) 0))
+      (d : v ≡ ltb (u * 2 ^ getD t (16 * n + 12 + (k - 1)) 0) (2 ^ 32)) where
+    is-last : last ≡ v
+    is-last = ap (λ (j : ℕ). ltb (j * 2 ^ getD t (16 * n + 12 + (k - 1)) 0) (2 ^ 32)) (sym e) ∙ sym d
+
+    pub masks-bad : v ≡ false → false ≡ masksFit t s n p 4
+    masks-bad h = sym (and-no (masksFit t s n p (k - 1)) (is-last ∙ h)) ∙ whole-is
+
+    pub masks-step : v ≡ true → Looked t s n p (k - 1)
+    masks-step h =
+        record {
+          upto = omega (arith, i .upto);
+          left = ap (λ (j : Bool). j && masksFit t s n p (k - 1)) (sym (is-last ∙ h)) ∙ whole-is;
+        }
+
+pub masks-exit : (t s : List ℕ) (n p k : ℕ) → Looked t s n p k → k ≤ 0 → true ≡ masksFit t s n p 4
+unfolding masksFit
+masks-exit t s n p zero i h = i .left
+masks-exit t s n p (suc k) i h = absurd (omega arith)

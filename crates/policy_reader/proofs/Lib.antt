@@ -1,5 +1,5 @@
+mod Again
 mod Body
-mod Laying
 mod Rules
 mod File
 pub mod Above

@@ -1,47 +1,50 @@
--- A PN as the code reads it, and the loop over those of a policy: what is left to read and to fill from here equals the whole.
--- Rests on the definitions of `rule`, `rules` and `fillRules`, on Body, and on Stands and Within: a PN ends where its width says, inside.
-use mathlib.Core.Path.{_≡_, refl, ap, sym, subst, _∙_}
-use mathlib.Core.Bool.{Bool, true, false, _&&_}
-use mathlib.Core.List.{List, _∷_}
-use Prim.Native.Nat.{ℕ, suc, _+_, _-_, _*_, _^_, _/_, _%_, _≤_, _<_, min}
+-- A PN as the code reads it, and the loops over those of a policy: what is left to read and to note from here equals the whole.
+-- Rests on the definitions of `rule`, `rules` and `noteRules`, on Body, and on Stands, Within and Rows: a PN ends where its width says, inside, and its row has room.
+use mathlib.Core.Path.{_≡_, refl, ap, sym, _∙_}
+use mathlib.Core.Bool.{Bool, true, false, _&&_, _||_}
+use mathlib.Core.List.{List, [], _∷_}
+use Prim.Native.Nat.{ℕ, suc, _+_, _-_, _*_, _%_, _^_, _≤_, _<_}
 use native.Mathlib.Omega.{arith}
+use native.Mathlib.Nat.{zero-add}
 use native.Mathlib.Decide.{ℕ-discrete}
-use borrow.Author.Tests.{le-leb, lt-leb, lt-ltb, le-ltb, eq-eqb, ne-eqb, eqb-true}
+use borrow.Author.Tests.{le-leb, lt-leb, lt-ltb, le-ltb, eq-eqb, ne-eqb}
 use lib.ListN.{length, getD, set, length-set}
 use lib.Dec.{leb, ltb, eqb}
 use mir.Val.{Fits}
-use mir.Syntax.{w8, w64}
+use mir.Syntax.{w64}
 use Rattle.fields.specs.Reading.{Got, got, bad, part, be, whole, field, mark, many}
 use Rattle.fields.specs.Answers.{fieldOf, stepOf}
+use Rattle.fields.specs.Runs.{Run, did, refused, runOf}
 use Rattle.fields.specs.declared.Field.{Field}
 use Rattle.fields.specs.declared.Field.the-variants.{Value, Cut}
 use Rattle.fields.specs.declared.Step.{Step}
 use Rattle.fields.specs.declared.Step.the-variants.{Next, Bad}
-use Rattle.fields.proofs.Reading.{took, stepped, stopped, value-of, mark-yes, field-cut, field-bad, field-ok}
-use Rattle.fields.proofs.Back.{whole-back, field-back, after-mark, be1}
-use Rattle.fields.proofs.Bytes.{be2, Bytes}
-use Rattle.fields.proofs.Tests.{and-yes, and-no, and-no-2, never, is-not, alike}
+use Rattle.fields.proofs.Reading.{stepped, stopped, value-of, mark-yes, field-cut, field-bad, field-ok}
+use Rattle.fields.proofs.Back.{be1}
+use Rattle.fields.proofs.Bytes.{be2}
+use Rattle.fields.proofs.Tests.{and-yes, and-no, and-no-2, and-true}
 use Rattle.schema.specs.Schema.{Node, nodeAt, schemaOf}
+use Rattle.schema.specs.Layout.{Laid}
 use Rattle.schema.specs.Table.{NodeIn}
+use Rattle.schema.proofs.Access.{laid}
 use Rattle.policies.specs.Policies.{Rule, PN, ruleOf, rule, rules}
-use Rattle.policies.specs.Index.{ruleWidth, fillRules, SchemaIn}
-use Rattle.policy_reader.specs.Body.{Laid, Looking, noneOver}
-use Rattle.policy_reader.specs.Runs.{ruleRead, names, InRow, leftOf, Run, did, refused, runOf, Long}
+use Rattle.policies.specs.Index.{ruleWidth, SchemaIn}
+use Rattle.fields.specs.Shorts.{short}
+use Rattle.policies.specs.Rows.{rowSlot, note, noteRules}
+use Rattle.policy_reader.specs.Body.{masksFit, isWhole, isGood, isBare, Shape, Shapes}
+use Rattle.policy_reader.specs.Runs.{ruleRead, Room, Open, noteIf, noteRulesIf, leftOf, InRow, RowEnd, none, more, Row}
 use Rattle.policy_reader.specs.declared.RuleRead.{RuleRead}
 use Rattle.policy_reader.specs.declared.RuleRead.the-variants.{Named, NoRule}
 use Rattle.policies.proofs.Nodes.{nodes-few}
-use Rattle.policies.proofs.Stands.{Ruled, rule-of-back, rule-back}
+use Rattle.policies.proofs.Rows.{note-length, note-other}
+use Rattle.policies.proofs.Stands.{rule-of-back, rule-back}
 use Rattle.policies.proofs.Within.{pn-within}
-use Rattle.policy_reader.proofs.Body.{body-looking, body-read, body-end, body-over}
+use Rattle.policy_reader.proofs.Body.{whole-inside, shape-of, good-read, good-bare, bare-back, shapes-of}
 
 -- ---- one PN
 
 pub node-in : (schema t : List ℕ) (n : ℕ) {count : ℕ} → SchemaIn schema t count → n < count → NodeIn schema t n
 node-in schema t n w h = record { table = w .table; below = omega (arith, w .counted) }
-
--- its ranks begin inside
-pub body-inside : (s : List ℕ) (p : ℕ) {f : Field} {v q : ℕ} → f ≡ fieldOf (whole 1 s p) → f ≡ Value v q → q ≤ length s
-body-inside s p e h = let w = whole-back 1 s p (took (whole 1 s p) e h) in omega (arith, w .next, w .inside)
 
 -- the node's rule
 module _ (schema : List ℕ) (low v : ℕ) where
@@ -122,7 +125,7 @@ rule-none : (r : Got Rule) {f : RuleRead} {m o : ℕ} → f ≡ ruleRead r → f
 rule-none (got x u) e h = absurd (let z : _≡_ {A = ℕ} 0 1 = cc in omega arith)
 rule-none (bad m o) e h = cc
 
--- ---- the PN that is expected
+-- ---- a PN that is plainly good
 
 -- two letters compared as numbers, the first one low
 pub pair-same : (s m : List ℕ) (p : ℕ) {x y : ℕ} → (x ≡ getD s (p + 1) 0 * 256 + getD s p 0) × (getD s p 0 < 256) × (getD s (p + 1) 0 < 256)
@@ -139,128 +142,115 @@ pair-same s m p {x} {y} a b = go (ℕ-discrete x y)
     go (yes e) = eq-eqb x y e ∙ sym (eq-eqb (be 2 s p) (be 2 m 0) (omega (arith, a .0, a .1, b .0, b .1, spelt, letters)))
     go (no e) = ne-eqb x y e ∙ sym (ne-eqb (be 2 s p) (be 2 m 0) (λ h. e (omega (arith, a .0, a .1, b .0, b .1, spelt, letters))))
 
--- a node as a byte
-pub few-fits : (schema : List ℕ) (n : ℕ) → n < length (schemaOf schema) → Fits w8 n
-few-fits schema n h = record { fits = omega (arith, nodes-few schema) }
+good-whole : (t s : List ℕ) (n p : ℕ) → isGood t s n p ≡ true → isWhole s (getD t (16 * n + 5) 0) p ≡ true
+unfolding isGood
+good-whole t s n p e = and-true (isWhole s (getD t (16 * n + 5) 0) p) (eqb (getD t (16 * n + 6) 0) 0 || masksFit t s n (p + 3) 4) e .0
 
--- what was read, back from whether it is a PN of node n
-names-back : (n : ℕ) (r : Got Rule) → names n r ≡ true → (q : ℕ) × Answered r n q
-unfolding names
-names-back n (got x q) e = (q, record { what = x; read = refl; node = eqb-true (x .node) n e })
-names-back n (bad m o) e = never e
+module _ (schema t s : List ℕ) (low n p : ℕ) (w : Laid (schemaOf schema) t) (a : low ≤ n) (b : n < length (schemaOf schema)) (i : n ≡ getD s (p + 2) 0)
+    (l : p ≤ length s) {v : Bool} (e : v ≡ isGood t s n p) (h : v ≡ true) where
+  good : isGood t s n p ≡ true
+  good = sym e ∙ h
 
-named-names : (n q : ℕ) (r : Got Rule) → Named n q ≡ ruleRead r → names n r ≡ true
-unfolding names
-named-names n q (got x u) e = eq-eqb (x .node) n (cc)
-named-names n q (bad m o) e = absurd (let z : _≡_ {A = ℕ} 0 1 = cc in omega arith)
+  good-inside : (getD t (16 * n + 5) 0 ≤ length s - p) × (be 2 s p ≡ be 2 PN 0)
+  good-inside = whole-inside s (getD t (16 * n + 5) 0) p (good-whole t s n p good)
 
--- the letters, the node and what follows it, of a PN of node n that was read
-record Parts (g : List Node) (s : List ℕ) (n p : ℕ) (x : Rule) (q : ℕ) : Type 0 where
-  pub letters : eqb (be 2 s p) (be 2 PN 0) ≡ true
-  pub node : getD s (p + 2) 0 ≡ n
-  pub body : Ruled s (nodeAt g n) n (p + 3) x q
+  three : 3 ≤ getD t (16 * n + 5) 0
+  three = shape-of schema t n w b .least
 
-parts : (g : List Node) (s : List ℕ) (n p : ℕ) {x : Rule} {q : ℕ} → rule g s n p ≡ got x q → x .node ≡ n → Parts g s n p x q
-unfolding rule
-parts g s n p {x} {q} e i =
-    let m = after-mark PN s p _ e in
-    let f = field-back 1 10 (λ v. leb n v && ltb v (length g)) s (p + 2) _ (m .then) in
-    let v = be 1 s (p + 2) in
-    let r = rule-of-back s (nodeAt g v) v (p + 2 + 1) (f .then) in
-    let a : p + 2 + 1 ≡ p + 3 = omega arith in
-    let z : v ≡ n = sym (r .node) ∙ i in
+  marked : Next (p + 2) ≡ stepOf (mark PN s p)
+  marked = mark-yes PN s p (value-of 2 s p (be 2 s p) (omega (arith, good-inside .0, three)) refl) refl refl (good-inside .1)
+
+  named : Value n (p + 2 + 1) ≡ fieldOf (whole 1 s (p + 2))
+  named = value-of 1 s (p + 2) n (omega (arith, good-inside .0, three)) (i ∙ sym (be1 s (p + 2)))
+
+  body : Next (p + getD t (16 * n + 5) 0) ≡ stepOf (ruleOf s (nodeAt (schemaOf schema) n) n (p + 2 + 1))
+  body = let z : p + 2 + 1 ≡ p + 3 = omega arith in rw z (good-read schema t n w b s p good l)
+
+  good-rule : Named n (p + getD t (16 * n + 5) 0) ≡ ruleRead (rule (schemaOf schema) s low p)
+  good-rule = named-then schema s low p marked refl named refl a b body refl
+
+  good-end : p + getD t (16 * n + 5) 0 ≤ length s
+  good-end = omega (arith, good-inside .0, three)
+
+module _ (schema t s : List ℕ) (low n p : ℕ) {count : ℕ} (c : SchemaIn schema t count) (b : n < count) where
+  w : Laid (schemaOf schema) t
+  w = laid schema t (c .table)
+
+  below : n < length (schemaOf schema)
+  below = omega (arith, c .counted)
+
+  pub take-shape : Shape t n
+  take-shape = shape-of schema t n w below
+
+  module _ {v : Bool} (a : low ≤ n) (i : n ≡ getD s (p + 2) 0) (l : p ≤ length s) (e : v ≡ isGood t s n p) (h : v ≡ true) where
+    pub take-good : Named n (p + getD t (16 * n + 5) 0) ≡ ruleRead (rule (schemaOf schema) s low p)
+    take-good = good-rule schema t s low n p w a below i l e h
+
+    pub take-fits : length s < 2 ^ 64 → Fits w64 (p + getD t (16 * n + 5) 0)
+    take-fits m = record { fits = omega (arith, good-end schema t s low n p w a below i l e h) }
+
+-- ---- the rows
+
+pub if-kept : (keep : Bool) (n o : ℕ) (t : List ℕ) → keep ≡ true
+    → set (set t (rowSlot n + 1 + getD t (rowSlot n) 0) (o % 65536)) (rowSlot n) (getD t (rowSlot n) 0 + 1) ≡ noteIf keep n o t
+unfolding noteIf note short
+if-kept keep n o t e = rw e
+
+pub if-slot : (t : List ℕ) (n i v : ℕ) → Room t n → rowSlot n < length (set t i v)
+if-slot t n i v w = omega (arith, w .long, length-set t i v)
+
+pub if-not : (keep : Bool) (n o : ℕ) (t : List ℕ) → keep ≡ false → t ≡ noteIf keep n o t
+unfolding noteIf
+if-not keep n o t e = rw e
+
+pub open-room : (count low : ℕ) (t : List ℕ) (n : ℕ) → Open count low t → low ≤ n → n < count → Room t n
+open-room count low t n w a b = record { long = omega (arith, w .long); room = w .room n a }
+
+note-if-length : (keep : Bool) (n o : ℕ) (t : List ℕ) → length (noteIf keep n o t) ≡ length t
+unfolding noteIf
+note-if-length true n o t = note-length n o t
+note-if-length false n o t = refl
+
+open-next : (keep : Bool) (count low n o : ℕ) (t : List ℕ) → Open count low t → low ≤ n → Open count (n + 1) (noteIf keep n o t)
+unfolding noteIf
+open-next true count low n o t w a =
     record {
-      letters = m .letters;
-      node = sym (be1 s (p + 2)) ∙ z;
-      body = subst (λ (j : ℕ). Ruled s (nodeAt g n) n j x q) a (subst (λ (j : ℕ). Ruled s (nodeAt g j) j (p + 2 + 1) x q) z r);
+      long = omega (arith, w .long, note-length n o t);
+      room = λ m l.
+          let e : rowSlot m + 0 ≡ rowSlot m = omega arith in
+          omega (arith, w .room m (omega arith), rw e at (note-other n o t (w .room n a) m 0 (omega arith) (λ z. omega arith)));
     }
+open-next false count low n o t w a = record { long = w .long; room = λ m l. w .room m (omega arith) }
 
--- a PN of node n stands at p, and ends at q
-pub record Expected (g : List Node) (s : List ℕ) (n p q : ℕ) : Type 0 where
-  pub inside : q ≤ length s
-  pub read : Named n q ≡ ruleRead (rule g s n p)
+note-first : (keep : Bool) (h p : ℕ) (r : Got (List Rule)) (x : Rule) (t : List ℕ)
+    → runOf (noteRulesIf keep h p) (part r (λ xs q. got (x ∷ xs) q)) t ≡ runOf (noteRulesIf keep h (p + ruleWidth x)) r (noteIf keep (x .node) (h + p + 3) t)
+unfolding noteRulesIf noteIf noteRules part
+note-first true h p (got xs q) x t = refl
+note-first false h p (got xs q) x t = refl
+note-first true h p (bad n o) x t = refl
+note-first false h p (bad n o) x t = refl
 
-module _ (schema t s : List ℕ) (n p : ℕ) {shape : ℕ} (w : Laid (schemaOf schema) (length (schemaOf schema)) t) (b : n < length (schemaOf schema))
-    (q : shape ≡ getD t (16 * n) 0) where
-  abbrev read : Got Rule
-  read = rule (schemaOf schema) s n p
+none-noted : (keep : Bool) (h p : ℕ) (t : List ℕ) {X : Run (List ℕ)} → runOf (noteRulesIf keep h p) (got [] p) t ≡ X → did p t ≡ X
+unfolding noteRulesIf noteRules
+none-noted true h p t e = e
+none-noted false h p t e = e
 
-  -- the node's shape tells where it ends
-  expected-end : {e : ℕ} → Answered read n e → e ≡ p + (3 + shape / 8)
-  expected-end {e} h =
-      let z = body-end schema t n w b s (p + 3) q (parts (schemaOf schema) s n p (h .read) (h .node) .body) in
-      omega arith
-
-  expected-stands : {v : Bool} → p ≤ length s → v ≡ names n read → v ≡ true → Expected (schemaOf schema) s n p (p + (3 + shape / 8))
-  expected-stands l e z =
-      let h = names-back n read (sym e ∙ z) in
-      let i = expected-end (h .1) in
-      record {
-        inside = omega (arith, rw (h .1 .read) at (pn-within s (schemaOf schema) n p l .end));
-        read = rw (h .1 .read, h .1 .node) (ap (Named n) (sym i));
-      }
-
-  -- where one of the tests fails none was read
-  module _ (f : (e : ℕ) → Answered read n e → ⊥) where
-    none-read : false ≡ names n read
-    none-read = sym (is-not (names n read) (λ h. let z = names-back n read h in f (z .0) (z .1)))
-
-  pub expected-short : p ≤ length s → length s < p + (3 + shape / 8) → false ≡ names n read
-  expected-short l h =
-      none-read (λ e a. let i = expected-end a in let z = rw (a .read) at (pn-within s (schemaOf schema) n p l .end) in omega arith)
-
-  pub expected-unmarked : {m : Bool} → m ≡ eqb (be 2 s p) (be 2 PN 0) → m ≡ false → false ≡ names n read
-  expected-unmarked e h = none-read (λ u a. never (sym h ∙ e ∙ parts (schemaOf schema) s n p (a .read) (a .node) .letters))
-
-  pub expected-other : (getD s (p + 2) 0 ≡ n → ⊥) → false ≡ names n read
-  expected-other h = none-read (λ e a. h (parts (schemaOf schema) s n p (a .read) (a .node) .node))
-
-  module _ (l : p + (3 + shape / 8) ≤ length s) where
-    pub expected-looking : Looking t s n (shape % 8) (p + 3)
-    expected-looking = body-looking schema t n w b s (p + 3) q (omega arith) (omega arith)
-
-    -- where all of them pass one was read
-    module _ {m v : Bool} (e : m ≡ eqb (be 2 s p) (be 2 PN 0)) (h : m ≡ true) (i : getD s (p + 2) 0 ≡ n) (o : v ≡ noneOver t s n (p + 3) (shape % 8)) where
-      marked : Next (p + 2) ≡ stepOf (mark PN s p)
-      marked = mark-yes PN s p (value-of 2 s p (be 2 s p) (omega arith) refl) refl refl (eqb-true (be 2 s p) (be 2 PN 0) (sym e ∙ h))
-
-      named : Value n (p + 2 + 1) ≡ fieldOf (whole 1 s (p + 2))
-      named = value-of 1 s (p + 2) n (omega arith) (sym (be1 s (p + 2) ∙ i))
-
-      body : v ≡ true → Next (p + (3 + shape / 8)) ≡ stepOf (ruleOf s (nodeAt (schemaOf schema) n) n (p + 2 + 1))
-      body z =
-          let a : p + 2 + 1 ≡ p + 3 = omega arith in
-          let c : p + (3 + shape / 8) ≡ p + 3 + shape / 8 = omega arith in
-          rw (a, c) (body-read schema t n w b s (p + 3) q (omega arith) (omega arith) o z)
-
-      one-read : v ≡ true → names n read ≡ true
-      one-read z = named-names n (p + (3 + shape / 8)) read (named-then schema s n p marked refl named refl (omega arith) b (body z) refl)
-
-      pub expected-is : Bytes s → v ≡ names n read
-      expected-is f = alike v (names n read) one-read (λ z. o ∙ fits (names-back n read z))
-        where
-          fits : (u : ℕ) × Answered read n u → noneOver t s n (p + 3) (shape % 8) ≡ true
-          fits a = body-over schema t n w b s (p + 3) q (parts (schemaOf schema) s n p (a .1 .read) (a .1 .node) .body) f (shape % 8) (omega arith)
-
--- ---- the index, after a PN that was read
-
-fill-first : (j p : ℕ) (r : Got (List Rule)) (x : Rule) (t : List ℕ)
-    → runOf (fillRules j p) (part r (λ xs q. got (x ∷ xs) q)) t ≡ runOf (fillRules j (p + ruleWidth x)) r (set t (16 + 16 * x .node + j) (p + 3))
-unfolding fillRules part
-fill-first j p (got xs q) x t = refl
-fill-first j p (bad n o) x t = refl
+-- ---- after a PN that was read
 
 module _ (g : List Node) (s : List ℕ) (low p : ℕ) {f : RuleRead} {n q : ℕ} (e : f ≡ ruleRead (rule g s low p)) (h : f ≡ Named n q) where
-  -- a PN that was read is the first of those that were left
-  left-next : (j k : ℕ) (t : List ℕ) → leftOf g s j k (n + 1) q (set t (16 + 16 * n + j) (p + 3)) ≡ leftOf g s j (suc k) low p t
+  -- it is the first of those that were left
+  left-next : (keep : Bool) (d k : ℕ) (t : List ℕ) → leftOf g s keep d k (n + 1) q (noteIf keep n (d + p + 3) t) ≡ leftOf g s keep d (suc k) low p t
   unfolding rules many part
-  left-next j k t =
+  left-next keep d k t =
       let x = rule-took (rule g s low p) e h in
       let u = rule-back g s low p (x .read) .next in
       rw (x .read)
-      (ap (λ (z : ℕ). runOf (fillRules j z) (many (rule g s) (λ _ x. x .node + 1) k (n + 1) q) (set t (16 + 16 * n + j) (p + 3))) u
-      ∙ ap (λ (z : ℕ). runOf (fillRules j (p + ruleWidth (x .what))) (many (rule g s) (λ _ x. x .node + 1) k (z + 1) q) (set t (16 + 16 * z + j) (p + 3))) (sym (x .node))
-      ∙ sym (fill-first j p (many (rule g s) (λ _ x. x .node + 1) k (x .what .node + 1) q) (x .what) t))
+      (ap (λ (z : ℕ). runOf (noteRulesIf keep d z) (many (rule g s) (λ _ x. x .node + 1) k (n + 1) q) (noteIf keep n (d + p + 3) t)) u
+      ∙ ap (λ (z : ℕ). runOf (noteRulesIf keep d (p + ruleWidth (x .what))) (many (rule g s) (λ _ x. x .node + 1) k (z + 1) q) (noteIf keep z (d + p + 3) t)) (sym (x .node))
+      ∙ sym (note-first keep d p (many (rule g s) (λ _ x. x .node + 1) k (x .what .node + 1) q) (x .what) t))
+
+  rule-above : low ≤ n
+  rule-above = let w = rule-took (rule g s low p) e h in omega (arith, w .node, rule-back g s low p (w .read) .low)
 
   rule-below : n < length g
   rule-below = let w = rule-took (rule g s low p) e h in omega (arith, w .node, rule-back g s low p (w .read) .stands .below)
@@ -274,148 +264,131 @@ module _ (g : List Node) (s : List ℕ) (low p : ℕ) {f : RuleRead} {n q : ℕ}
 
 -- ---- in a row
 
-module _ (g : List Node) (s : List ℕ) (j low p : ℕ) (t : List ℕ) (end : ℕ) where
-  pub row-start : low ≤ end → p ≤ length s → InRow g s j low p t end low p t
-  row-start a h =
-      record {
-        least = omega arith;
-        most = a;
-        inside = h;
-        same = refl;
-        left = λ k. ap (λ (i : ℕ). leftOf g s j i low p t) (let z : k ≡ low - low + k = omega arith in z);
-      }
+pub row-init : (t s : List ℕ) (keep : Bool) (h from : ℕ) (u : List ℕ) (count : ℕ) → from ≤ length s → Open count 0 u → Row t s keep h from u count 0 from u
+row-init t s keep h from u count l w = record { row = none; most = omega arith; inside = l; same = refl; room = w }
 
-  pub row-more : (n q : ℕ) (u : List ℕ) {r : ℕ} → InRow g s j low p t end n q u → n < end → Expected g s n q r
-      → InRow g s j low p t end (n + 1) r (set u (16 + 16 * n + j) (q + 3))
-  row-more n q u {r} i a e =
-      record {
-        least = omega (arith, i .least);
-        most = omega arith;
-        inside = e .inside;
-        same = length-set u (16 + 16 * n + j) (q + 3) ∙ i .same;
-        left = λ k.
-            left-next g s n q (e .read) refl j k u
-            ∙ i .left (suc k)
-            ∙ ap (λ (m : ℕ). leftOf g s j m low p t) (let z : n - low + suc k ≡ n + 1 - low + k = omega (arith, i .least) in z);
-      }
+module _ (t s : List ℕ) (keep : Bool) (h from : ℕ) (u₀ : List ℕ) (count n p : ℕ) (u : List ℕ) (i : Row t s keep h from u₀ count n p u) (l : n < count) where
+  pub row-room : Room u n
+  row-room = open-room count n u n (i .room) (omega arith) l
 
--- the PN that was expected, of a node of the row
-module _ (schema t s : List ℕ) (n p end : ℕ) {shape : ℕ} {v : Bool} (w : Laid (schemaOf schema) (length (schemaOf schema)) t) (h : n < end) (k : end ≤ length (schemaOf schema))
-    (q : shape ≡ getD t (16 * n) 0) (l : p ≤ length s) (e : v ≡ names n (rule (schemaOf schema) s n p)) (z : v ≡ true) where
-  pub row-stands : Expected (schemaOf schema) s n p (p + (3 + shape / 8))
-  row-stands = expected-stands schema t s n p w (omega arith) q l e z
+  module _ (w : Shapes t count) where
+    pub row-shape : Shape t n
+    row-shape = w .each n l
 
-  module _ (m : length s < 2 ^ 64) where
-    pub row-width-fits : Fits w64 (shape / 8)
-    row-width-fits = record { fits = omega (arith, row-stands .inside) }
+    module _ {v : Bool} (e : v ≡ isBare t s n p) (z : v ≡ true) where
+      row-inside : getD t (16 * n + 5) 0 ≤ length s - p
+      row-inside = whole-inside s (getD t (16 * n + 5) 0) p (bare-back t s n p (sym e ∙ z) .whole) .0
 
-    pub row-whole-fits : Fits w64 (3 + shape / 8)
-    row-whole-fits = record { fits = omega (arith, row-stands .inside) }
+      row-end : p + getD t (16 * n + 5) 0 ≤ length s
+      row-end = omega (arith, row-inside, row-shape .least)
 
-    pub row-end-fits : Fits w64 (p + (3 + shape / 8))
-    row-end-fits = record { fits = omega (arith, row-stands .inside) }
+      pub row-at-fits : h + length s < 2 ^ 64 → Fits w64 (h + p)
+      row-at-fits m = record { fits = omega (arith, row-end) }
 
-pub ruleset of-row = (row-width-fits, row-whole-fits, row-end-fits)
+      pub row-offset-fits : h + length s < 2 ^ 64 → Fits w64 (h + p + 3)
+      row-offset-fits m = record { fits = omega (arith, row-end, row-shape .least) }
 
--- ---- all of them
+      pub row-end-fits : h + length s < 2 ^ 64 → Fits w64 (p + getD t (16 * n + 5) 0)
+      row-end-fits m = record { fits = omega (arith, row-end) }
 
--- what is left to read and to fill equals the whole; the index is as long as it was
-pub record Filling (g : List Node) (s : List ℕ) (j : ℕ) (t₀ : List ℕ) (X : Run) (k low p : ℕ) (t : List ℕ) : Type 0 where
-  pub left : leftOf g s j k low p t ≡ X
+      pub row-step : {y : List ℕ} → y ≡ noteIf keep n (h + p + 3) u → Row t s keep h from u₀ count (n + 1) (p + getD t (16 * n + 5) 0) y
+      row-step o = rw o
+          (record {
+            row = more (i .row) (sym e ∙ z);
+            most = omega arith;
+            inside = row-end;
+            same = note-if-length keep n (h + p + 3) u ∙ i .same;
+            room = open-next keep count n n (h + p + 3) u (i .room) (omega arith);
+          })
+
+-- what is left after those equals what was left before
+module _ (schema t s : List ℕ) (w : Laid (schemaOf schema) t) where
+  row-named : (n p : ℕ) → n < length (schemaOf schema) → isBare t s n p ≡ true → Named n (p + getD t (16 * n + 5) 0) ≡ ruleRead (rule (schemaOf schema) s n p)
+  row-named n p b e =
+      let d = bare-back t s n p e in
+      let i = whole-inside s (getD t (16 * n + 5) 0) p (d .whole) .0 in
+      good-rule schema t s n n p w (omega arith) b (sym (d .node)) (omega (arith, shape-of schema t n w b .least))
+      (good-bare t s n p (sym (d .whole)) refl (d .masks)) refl
+
+  row-left : (keep : Bool) (h from : ℕ) (u₀ : List ℕ) {n p : ℕ} {u : List ℕ} → InRow t s keep h from u₀ n p u → n ≤ length (schemaOf schema)
+      → (k : ℕ) → leftOf (schemaOf schema) s keep h k n p u ≡ leftOf (schemaOf schema) s keep h (n + k) 0 from u₀
+  row-left keep h from u₀ none l k = ap (λ (m : ℕ). leftOf (schemaOf schema) s keep h m 0 from u₀) (sym (zero-add k))
+  row-left keep h from u₀ (more {n = n} {p} {u} r d) l k =
+      left-next (schemaOf schema) s n p (row-named n p (omega arith) d) refl keep h k u
+      ∙ row-left keep h from u₀ r (omega arith) (suc k)
+      ∙ ap (λ (m : ℕ). leftOf (schemaOf schema) s keep h m 0 from u₀) (let z : n + suc k ≡ n + 1 + k = omega arith in z)
+
+-- ---- the rest
+
+-- what is left to read and to note equals the whole; the rows are as long as they were, and open
+pub record Noting (g : List Node) (s : List ℕ) (keep : Bool) (h : ℕ) (t₀ : List ℕ) (X : Run (List ℕ)) (count k low p : ℕ) (t : List ℕ) : Type 0 where
+  pub left : leftOf g s keep h k low p t ≡ X
   pub same : length t ≡ length t₀
-  pub room : 16 + 16 * length g ≤ length t
-  pub below : low ≤ length g
   pub inside : p ≤ length s
-  pub few : j < 16
+  pub room : Open count low t
 
-pub rules-start : (schema s : List ℕ) (j k p : ℕ) (t : List ℕ) → Long schema t → p ≤ length s → j < 16
-    → Filling (schemaOf schema) s j t (leftOf (schemaOf schema) s j k 0 p t) k 0 p t
-rules-start schema s j k p t w h l = record { left = refl; same = refl; room = w .long; below = omega arith; inside = h; few = l }
+pub rest-init : (g : List Node) (s : List ℕ) (keep : Bool) (h count k low p : ℕ) (t : List ℕ) → p ≤ length s → Open count low t
+    → Noting g s keep h t (leftOf g s keep h k low p t) count k low p t
+rest-init g s keep h count k low p t l w = record { left = refl; same = refl; inside = l; room = w }
 
--- what those in a row ask for
-module _ (schema s : List ℕ) (j : ℕ) (t₀ : List ℕ) (X : Run) (k low p : ℕ) (t : List ℕ) (i : Filling (schemaOf schema) s j t₀ X k low p t) where
-  pub row-low : {table : List ℕ} {count : ℕ} → SchemaIn schema table count → low ≤ count
-  row-low c = omega (arith, i .below, c .counted)
-
-  pub row-long : Long schema t
-  row-long = record { long = i .room }
-
-pub row-end : (schema table : List ℕ) (count low k e : ℕ) → SchemaIn schema table count → e ≡ min count (low + k) → e ≤ length (schemaOf schema)
-row-end schema table count low k e c d = omega (arith, c .counted)
-
-pub row-few : (g : List Node) (s : List ℕ) (j low p : ℕ) (t : List ℕ) (e n q : ℕ) (u : List ℕ) (count k : ℕ) → e ≡ min count (low + k) → InRow g s j low p t e n q u → n - low ≤ k
-row-few g s j low p t e n q u count k d r = omega (arith, r .most)
-
-module _ (schema s : List ℕ) (j : ℕ) (t₀ : List ℕ) {X : Run} (k low p : ℕ) (t : List ℕ) {count e n q : ℕ} {u : List ℕ} {table : List ℕ}
-    (i : Filling (schemaOf schema) s j t₀ X k low p t) (c : SchemaIn schema table count) (d : e ≡ min count (low + k)) (r : InRow (schemaOf schema) s j low p t e n q u) where
+module _ (schema s : List ℕ) (keep : Bool) (h : ℕ) (t₀ : List ℕ) {X : Run (List ℕ)} (count k low p : ℕ) (t : List ℕ)
+    (i : Noting (schemaOf schema) s keep h t₀ X count k low p t) where
   abbrev g : List Node
   g = schemaOf schema
 
-  -- after those in a row
-  rules-row : Filling g s j t₀ X (k - (n - low)) n q u
-  rules-row =
-      record {
-        left =
-            r .left (k - (n - low))
-            ∙ ap (λ (m : ℕ). leftOf g s j m low p t) (let z : n - low + (k - (n - low)) ≡ k = omega (arith, r .most) in z)
-            ∙ i .left;
-        same = r .same ∙ i .same;
-        room = omega (arith, i .room, r .same);
-        below = omega (arith, r .most, c .counted);
-        inside = r .inside;
-        few = i .few;
-      }
+  pub rest-exit : k ≤ 0 → did p t ≡ X
+  unfolding rules many
+  rest-exit z = let e : k ≡ 0 = omega arith in none-noted keep h p t (rw e at (i .left))
 
-  pub rules-done : k - (n - low) ≡ 0 → did q u ≡ X
-  unfolding rules many fillRules
-  rules-done z = rw z at (rules-row .left)
+  module _ {f : RuleRead} (a : 0 < k) (x : f ≡ ruleRead (rule g s low p)) where
+    more-left : suc (k - 1) ≡ k
+    more-left = omega arith
 
-  module _ {f : RuleRead} (a : k - (n - low) ≡ 0 → ⊥) (x : f ≡ ruleRead (rule g s n q)) where
-    more : suc (k - (n - low) - 1) ≡ k - (n - low)
-    more = omega arith
-
-    pub rules-bad : {m o : ℕ} → f ≡ NoRule m o → refused m o ≡ X
+    pub rest-bad : {m o : ℕ} → f ≡ NoRule m o → refused m o ≡ X
     unfolding rules many part
-    rules-bad h = rw (sym more, rule-none (rule g s n q) x h) at (rules-row .left)
+    rest-bad d = rw (sym more-left, rule-none (rule g s low p) x d) at (i .left)
 
-    pub rules-more : {m v : ℕ} → f ≡ Named m v → Filling g s j t₀ X (k - (n - low) - 1) (m + 1) v (set u (16 + 16 * m + j) (q + 3))
-    rules-more {m} {v} h =
-        record {
-          left =
-              left-next g s n q x h j (k - (n - low) - 1) u
-              ∙ ap (λ (b : ℕ). leftOf g s j b n q u) more
-              ∙ rules-row .left;
-          same = length-set u (16 + 16 * m + j) (q + 3) ∙ rules-row .same;
-          room = omega (arith, length-set u (16 + 16 * m + j) (q + 3), rules-row .room);
-          below = omega (arith, rule-below g s n q x h);
-          inside = rule-end g s n q x h (r .inside);
-          few = i .few;
-        }
+    module _ {n q : ℕ} (d : f ≡ Named n q) where
+      pub rest-step : {y : List ℕ} → y ≡ noteIf keep n (h + p + 3) t → Noting g s keep h t₀ X count (k - 1) (n + 1) q y
+      rest-step o =
+          rw o
+          (record {
+            left = left-next g s low p x d keep h (k - 1) t ∙ ap (λ (b : ℕ). leftOf g s keep h b low p t) more-left ∙ i .left;
+            same = note-if-length keep n (h + p + 3) t ∙ i .same;
+            inside = rule-end g s low p x d (i .inside);
+            room = open-next keep count low n (h + p + 3) t (i .room) (rule-above g s low p x d);
+          })
 
-    -- its place in the index
-    module _ {m v : ℕ} (h : f ≡ Named m v) where
-      rule-small : m < 64
-      rule-small = omega (arith, rule-below g s n q x h, nodes-few schema)
+      pub rest-room : {table : List ℕ} → SchemaIn schema table count → Room t n
+      rest-room c = open-room count low t n (i .room) (rule-above g s low p x d) (omega (arith, c .counted, rule-below g s low p x d))
 
-      pub rule-place : 16 + 16 * m + j < length u
-      rule-place = omega (arith, rule-below g s n q x h, rules-row .room, i .few)
+      pub rest-offset-fits : h + length s < 2 ^ 64 → Fits w64 (h + p + 3)
+      rest-offset-fits l = record { fits = omega (arith, rule-width g s low p x d, rule-end g s low p x d (i .inside)) }
 
-      pub rule-body-fits : Fits w64 v → Fits w64 (q + 3)
-      rule-body-fits w = record { fits = omega (arith, w .fits, rule-width g s n q x h) }
+      pub rest-at-fits : h + length s < 2 ^ 64 → Fits w64 (h + p)
+      rest-at-fits l = record { fits = omega (arith, rule-width g s low p x d, rule-end g s low p x d (i .inside)) }
 
-      pub rule-row-fits : Fits w64 (16 * m)
-      rule-row-fits = record { fits = omega (arith, rule-small) }
+      pub rest-low-fits : Fits w64 (n + 1)
+      rest-low-fits = record { fits = omega (arith, rule-below g s low p x d, nodes-few schema) }
 
-      pub rule-rows-fits : Fits w64 (16 + 16 * m)
-      rule-rows-fits = record { fits = omega (arith, rule-small) }
+pub ruleset of-rest = (rest-offset-fits, rest-at-fits, rest-low-fits, rest-room)
 
-      pub rule-place-fits : Fits w64 (16 + 16 * m + j)
-      rule-place-fits = record { fits = omega (arith, rule-small, i .few) }
+-- ---- all of them
 
-      pub rule-scaled : Fits w64 ((16 + 16 * m + j) * 8)
-      rule-scaled = record { fits = omega (arith, rule-small, i .few) }
+pub shapes-end : (schema t : List ℕ) {count k r : ℕ} → SchemaIn schema t count → RowEnd k count r → Shapes t r
+shapes-end schema t c e =
+    let w = shapes-of schema t c in
+    record { few = omega (arith, w .few, e .most); long = omega (arith, w .long, e .most); each = λ n l. w .each n (omega (arith, e .most)) }
 
-      pub rule-above-fits : (w : ℕ) → w ≤ m + 1 → Fits w64 w
-      rule-above-fits w l = record { fits = omega (arith, rule-small) }
+pub open-end : (count low : ℕ) (t : List ℕ) {k r : ℕ} → Open count low t → RowEnd k count r → Open r low t
+open-end count low t w e = record { long = omega (arith, w .long, e .most); room = w .room }
 
-pub ruleset of-place = (rule-place, rule-body-fits, rule-row-fits, rule-rows-fits, rule-place-fits, rule-scaled)
+module _ (schema t s : List ℕ) (keep : Bool) (h from : ℕ) (u₀ : List ℕ) (count n p : ℕ) (u : List ℕ) {k r : ℕ} (c : SchemaIn schema t count) (d : RowEnd k count r)
+    (i : Row t s keep h from u₀ r n p u) where
+  pub row-open : Open count 0 u₀ → Open count n u
+  row-open w = record { long = omega (arith, w .long, i .same); room = i .room .room }
+
+  pub rules-row : {Y : Run (List ℕ)} → Y ≡ leftOf (schemaOf schema) s keep h (k - n) n p u → Y ≡ leftOf (schemaOf schema) s keep h k 0 from u₀
+  rules-row {Y} y =
+      y ∙ row-left schema t s (laid schema t (c .table)) keep h from u₀ (i .row) (omega (arith, i .most, d .most, c .counted)) (k - n)
+      ∙ ap (λ (m : ℕ). leftOf (schemaOf schema) s keep h m 0 from u₀) (let z : n + (k - n) ≡ k = omega (arith, i .most, d .few) in z)

@@ -20,8 +20,8 @@ use Rattle.schema.specs.Table.{Accepted, AtMost}
 use Rattle.schema.proofs.Accepted.{sound}
 use Rattle.instances.specs.Instance.{Entry}
 use Rattle.instances.specs.File.{mostBytes, encode}
-use Rattle.instances.specs.Plan.{planned, nodesOf, planOf, valuesSlot, BitsRoom}
-use Rattle.planning.specs.Plan.{planFor, Plans, fileLength}
+use Rattle.instances.specs.Plan.{planned, nodesOf, planOf}
+use Rattle.planning.specs.Plan.{planFor, Plans, fileLength, EligibleRoom}
 use Rattle.planning.proofs.Measuring.{file-length-is, file-length-most}
 use Rattle.planning.specs.declared.Plan.{Plan}
 use Rattle.planning.specs.declared.Plan.the-variants.{Infeasible, Feasible}
@@ -85,17 +85,17 @@ module _ (s choices bits : List ℕ) {plan : Plan} {nodes : ℕ} (w : Plans (sch
           let z : 0 + length file ≡ length file = zero-add (length file) in
           rw (e, le-leb (length file) (length out) (plan-room h)) (record { answer = i ∙ ap success (u .next ∙ z); buffer = u .holds ∙ ap (λ (i : ℕ). file ++ drop i out) z })
 
--- ---- room for the bits of the values
+-- ---- room for the eligible successors
 
 module _ (s : List ℕ) {count : ℕ} (e : AtMost 64 (length (schemaOf s)) count) where
-  bits-room : (k : ℕ) → valuesSlot count ≤ k → BitsRoom s (replicate k 0)
-  bits-room k h = record { long = omega (arith, e .is, length-replicate {A = ℕ} k 0) }
+  eligible-room : (k : ℕ) → count ≤ k → EligibleRoom s (replicate k 0)
+  eligible-room k h = record { long = omega (arith, e .is, length-replicate {A = ℕ} k 0) }
 
-  pub bits-4 : count ≤ 4 → BitsRoom s (replicate 16 0)
-  bits-4 h = bits-room 16 (omega arith)
+  pub eligible-4 : count ≤ 4 → EligibleRoom s (replicate 4 0)
+  eligible-4 h = eligible-room 4 h
 
-  pub bits-16 : count ≤ 16 → BitsRoom s (replicate 64 0)
-  bits-16 h = bits-room 64 (omega arith)
+  pub eligible-16 : count ≤ 16 → EligibleRoom s (replicate 16 0)
+  eligible-16 h = eligible-room 16 h
 
-  pub bits-64 : BitsRoom s (replicate 256 0)
-  bits-64 = bits-room 256 (omega (arith, e .most))
+  pub eligible-64 : EligibleRoom s (replicate 64 0)
+  eligible-64 = eligible-room 64 (e .most)

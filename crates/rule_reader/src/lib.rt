@@ -53,7 +53,7 @@ fn read_condition(b: &[u8], v: Variable, at: usize) -> Step
 }
 
 // The conditions of node n's variables.
-fn read_conditions(schema: &[u8], table: &[usize], n: usize, b: &[u8], from: usize) -> Step
+fn read_conditions(schema: &[u8], table: &[u16], n: usize, b: &[u8], from: usize) -> Step
     requires { ⌜ NodeIn (now schema) (now table) n ⌝ }
     ensures { λ r. ⌜ r ≡ stepOf (conditions (now (b .entry)) (nodeAt (schemaOf (now (schema .entry))) n .variables) from) ⌝ }
 {
@@ -76,7 +76,7 @@ fn read_conditions(schema: &[u8], table: &[usize], n: usize, b: &[u8], from: usi
 }
 
 // The ranks and conditions of node n, field by field.
-pub fn read_fields(schema: &[u8], table: &[usize], n: usize, b: &[u8], from: usize) -> Step
+pub fn read_fields(schema: &[u8], table: &[u16], n: usize, b: &[u8], from: usize) -> Step
     requires { ⌜ NodeIn (now schema) (now table) n ⌝ }
     ensures { λ r. ⌜ r ≡ stepOf (ruleOf (now (b .entry)) (nodeAt (schemaOf (now (schema .entry))) n) n from) ⌝ }
 {

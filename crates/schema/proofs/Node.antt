@@ -191,6 +191,7 @@ pub record OneNode (s : List ℕ) (count own p : ℕ) (x : Node) (q : ℕ) : Typ
   pub links : (j : ℕ) → j < length (x .successors) → getD (x .successors) j 0 ≡ getD s (p + 4 + j) 0
   pub varied : length (x .variables) ≡ getD s (p + 4 + length (x .successors)) 0
   pub vars : variables s (length (x .variables)) (p + bodyOf x) ≡ got (x .variables) q
+  pub few-successors : length (x .successors) ≤ 8
   pub few-variables : length (x .variables) ≤ 4
   pub end : q ≡ p + nodeWidth x
   pub inside : p + bodyOf x ≤ length s
@@ -213,6 +214,7 @@ made s count own p {k} {xs} {vs} {m} {q} ek k1 c8 c1 l i v4 e =
       links = λ j h. l .bytes j (omega (arith, l .size));
       varied = ev;
       vars = ap (λ (n : ℕ). variables s n (p + (5 + length xs))) (v .size) ∙ ap (variables s (getD s m 0)) (sym eb) ∙ e;
+      few-successors = omega (arith, l .size);
       few-variables = omega (arith, v .size);
       end = omega (arith, v .end);
       inside = omega arith;

@@ -1,8 +1,12 @@
-// The reader of schema files.
+// The reader of schema files: it fills, as it reads, a table of what the crates above ask of each node, and the sets of successors.
 ghost use mathlib.Core.Path.{_≡_};
-ghost use Prim.Native.Nat.{_≤_};
-ghost use Rattle.fields.specs.Answers.{stepOf};
-ghost use Rattle.schema.specs.Schema.{number, listed, variable, variables, variablesOf, successors, links, node, nodes, body, mostNodes, schema};
+ghost use mathlib.Core.Bool.{cond};
+ghost use Prim.Native.Nat.{_+_, _-_, _≤_};
+ghost use lib.Dec.{eqb};
+ghost use Rattle.fields.specs.Runs.{outcome, runOf};
+ghost use Rattle.schema.specs.Schema.{mostNodes, number, listed, variable, variables, variablesOf, successors, links, node, nodes, body, schema};
+ghost use Rattle.schema.specs.declared.Variable.the-variants.{Listed};
+ghost use Rattle.schema.specs.Table.{fillVariable, fillVariables, tables, fillOne, fillAll, variableRead, linksRead, countIn, AtMost, Room, RoomFor, VariableRoom, YieldsSchema};
 use fields::Field;
 use fields::SignedField;
 use fields::Step;
@@ -21,50 +25,75 @@ pub const MOST_SUCCESSORS: usize = SUCCESSORS as usize;
 
 pub const MOST_VARIABLES: usize = VARIABLES as usize;
 
+// The slots of a node in the table: where its record and its variables begin, the bytes of its PN, how many masks that has, one
+// that is free, then for each variable the skip of its mask and the bits that the mask has to spare.
+pub const NODE_SLOTS: usize = 16;
+
+// The bytes of a condition.
+const RANGE_WIDTH: usize = 8;
+
+const MASK_WIDTH: usize = 4;
+
 // A variable of a node.
 pub enum Variable {
     Number { lo: i32, hi: i32 },
     Listed { size: u8 },
 }
 
-fn read_listed(s: &[u8], at: usize) -> Step
-    ensures { λ r. ⌜ r ≡ stepOf (listed (now (s .entry)) at) ⌝ }
+// A variable and the position after it, or a breach.
+enum VariableRead {
+    Number { lo: i32, hi: i32, next: usize },
+    Listed { size: u8, next: usize },
+    NoVariable { number: u8, offset: usize },
+}
+
+// The same of a node's successors, as a set and how many.
+enum LinksRead {
+    Linked { set: u64, count: usize, next: usize },
+    NoLinks { number: u8, offset: usize },
+}
+
+fn read_listed(s: &[u8], at: usize) -> VariableRead
+    ensures { λ r. ⌜ r ≡ variableRead (listed (now (s .entry)) at) ⌝ }
 {
     match reading::read_u8(s, at) {
-        Field::Cut { number, offset } => Step::Bad { number, offset },
+        Field::Cut { number, offset } => VariableRead::NoVariable { number, offset },
         Field::Value { value, next } => {
             if value == 0 {
-                return Step::Bad {
+                return VariableRead::NoVariable {
                     number: 6,
                     offset: at,
                 };
             }
             if 32 < value {
-                return Step::Bad {
+                return VariableRead::NoVariable {
                     number: 6,
                     offset: at,
                 };
             }
-            Step::Next { at: next }
+            VariableRead::Listed {
+                size: value as u8,
+                next,
+            }
         }
     }
 }
 
-fn read_number(s: &[u8], from: usize) -> Step
-    ensures { λ r. ⌜ r ≡ stepOf (number (now (s .entry)) from) ⌝ }
+fn read_number(s: &[u8], from: usize) -> VariableRead
+    ensures { λ r. ⌜ r ≡ variableRead (number (now (s .entry)) from) ⌝ }
 {
     match reading::read_i32(s, from) {
-        SignedField::NoSigned { number, offset } => Step::Bad { number, offset },
+        SignedField::NoSigned { number, offset } => VariableRead::NoVariable { number, offset },
         SignedField::Signed {
             value: lo,
             next: at,
         } => match reading::read_i32(s, at) {
-            SignedField::NoSigned { number, offset } => Step::Bad { number, offset },
+            SignedField::NoSigned { number, offset } => VariableRead::NoVariable { number, offset },
             SignedField::Signed { value: hi, next } => {
                 if lo <= hi {
-                    return Step::Next { at: next };
+                    return VariableRead::Number { lo, hi, next };
                 }
-                Step::Bad {
+                VariableRead::NoVariable {
                     number: 6,
                     offset: at,
                 }
@@ -73,11 +102,11 @@ fn read_number(s: &[u8], from: usize) -> Step
     }
 }
 
-fn read_variable(s: &[u8], at: usize) -> Step
-    ensures { λ r. ⌜ r ≡ stepOf (variable (now (s .entry)) at) ⌝ }
+fn read_variable(s: &[u8], at: usize) -> VariableRead
+    ensures { λ r. ⌜ r ≡ variableRead (variable (now (s .entry)) at) ⌝ }
 {
     match reading::read_u8(s, at) {
-        Field::Cut { number, offset } => Step::Bad { number, offset },
+        Field::Cut { number, offset } => VariableRead::NoVariable { number, offset },
         Field::Value { value, next } => {
             if value == 0 {
                 return read_number(s, next);
@@ -85,7 +114,7 @@ fn read_variable(s: &[u8], at: usize) -> Step
             if value == 1 {
                 return read_listed(s, next);
             }
-            Step::Bad {
+            VariableRead::NoVariable {
                 number: 6,
                 offset: at,
             }
@@ -93,27 +122,73 @@ fn read_variable(s: &[u8], at: usize) -> Step
     }
 }
 
-fn read_variables(s: &[u8], k: u32, from: usize) -> Step
-    ensures { λ r. ⌜ r ≡ stepOf (variables (now (s .entry)) k from) ⌝ }
+// How many bits a mask has above the values of its variable.
+fn spare_bits(size: u8) -> u16
+    ensures { λ r. ⌜ r ≡ 32 - size ⌝ }
 {
-    let mut left = k;
+    if size < 32 {
+        return 32 - (size as u16);
+    }
+    0
+}
+
+// Node own's variable k, a listed one that begins at an offset; its mask stands so far after the first rank.
+fn store_listed(own: usize, k: usize, at: usize, skip: usize, size: u8, table: &mut [u16])
+    requires { ⌜ VariableRoom own (k + 1) (now table) ⌝ }
+    requires { ⌜ skip ≤ 40 ⌝ }
+    ensures { λ _. ⌜ now (table .exit) ≡ fillVariable own k at skip (Listed size) (now (table .entry)) ⌝ }
+{
+    table[NODE_SLOTS * own + 1 + k] = (at % 65536) as u16;
+    table[NODE_SLOTS * own + 8 + k] = skip as u16;
+    table[NODE_SLOTS * own + 12 + k] = spare_bits(size);
+}
+
+// k variables of node own, whose PN has so many ranks.
+fn read_variables(
+    s: &[u8],
+    own: usize,
+    k: usize,
+    ranks: usize,
+    from: usize,
+    table: &mut [u16],
+) -> Step
+    requires { ⌜ VariableRoom own k (now table) ⌝ }
+    requires { ⌜ ranks ≤ 8 ⌝ }
+    ensures { λ r. ⌜ outcome r (now (table .exit)) ≡ runOf (fillVariables own 0 from ranks 0) (variables (now (s .entry)) k from) (now (table .entry)) ⌝ }
+{
+    let mut j: usize = 0;
     let mut at = from;
-    while 0 < left {
+    let mut skip = ranks;
+    let mut masks: usize = 0;
+    while j < k {
         match read_variable(s, at) {
-            Step::Bad { number, offset } => {
+            VariableRead::NoVariable { number, offset } => {
                 return Step::Bad { number, offset };
             }
-            Step::Next { at: next } => {
+            VariableRead::Number { lo: _, hi: _, next } => {
+                table[NODE_SLOTS * own + 1 + j] = (at % 65536) as u16;
+                skip += RANGE_WIDTH;
                 at = next;
-                left -= 1;
+                j += 1;
+            }
+            VariableRead::Listed { size, next } => {
+                store_listed(own, j, at, skip, size, table);
+                skip += MASK_WIDTH;
+                masks += 1;
+                at = next;
+                j += 1;
             }
         }
     }
+    table[NODE_SLOTS * own + 5] = (3 + skip) as u16;
+    table[NODE_SLOTS * own + 6] = masks as u16;
     Step::Next { at }
 }
 
-fn read_variables_of(s: &[u8], at: usize) -> Step
-    ensures { λ r. ⌜ r ≡ stepOf (variablesOf (now (s .entry)) at) ⌝ }
+fn read_variables_of(s: &[u8], own: usize, ranks: usize, at: usize, table: &mut [u16]) -> Step
+    requires { ⌜ VariableRoom own 4 (now table) ⌝ }
+    requires { ⌜ ranks ≤ 8 ⌝ }
+    ensures { λ r. ⌜ outcome r (now (table .exit)) ≡ runOf (fillVariables own 0 (at + 1) ranks 0) (variablesOf (now (s .entry)) at) (now (table .entry)) ⌝ }
 {
     match reading::read_u8(s, at) {
         Field::Cut { number, offset } => Step::Bad { number, offset },
@@ -124,52 +199,60 @@ fn read_variables_of(s: &[u8], at: usize) -> Step
                     offset: at,
                 };
             }
-            read_variables(s, value, next)
+            read_variables(s, own, value as usize, ranks, next, table)
         }
     }
 }
 
-fn read_successors(s: &[u8], count: u32, own: u32, c: u32, from: usize) -> Step
-    ensures { λ r. ⌜ r ≡ stepOf (successors (now (s .entry)) count own c from) ⌝ }
+fn read_successors(s: &[u8], count: u32, own: u32, c: u32, from: usize) -> LinksRead
+    requires { ⌜ count ≤ mostNodes ⌝ }
+    ensures { λ r. ⌜ r ≡ linksRead (successors (now (s .entry)) count own c from) ⌝ }
 {
     let mut left = c;
     let mut above = own;
+    let mut set: u64 = 0;
     let mut at = from;
     while 0 < left {
         match reading::read_u8(s, at) {
             Field::Cut { number, offset } => {
-                return Step::Bad { number, offset };
+                return LinksRead::NoLinks { number, offset };
             }
             Field::Value { value, next } => {
                 if value <= above {
-                    return Step::Bad {
+                    return LinksRead::NoLinks {
                         number: 5,
                         offset: at,
                     };
                 }
                 if count <= value {
-                    return Step::Bad {
+                    return LinksRead::NoLinks {
                         number: 5,
                         offset: at,
                     };
                 }
+                set = numbers::insert(set, value as usize);
                 above = value;
                 at = next;
                 left -= 1;
             }
         }
     }
-    Step::Next { at }
+    LinksRead::Linked {
+        set,
+        count: c as usize,
+        next: at,
+    }
 }
 
-fn read_links(s: &[u8], count: u32, own: u32, kind: u32, at: usize) -> Step
-    ensures { λ r. ⌜ r ≡ stepOf (links (now (s .entry)) count own kind at) ⌝ }
+fn read_links(s: &[u8], count: u32, own: u32, kind: u32, at: usize) -> LinksRead
+    requires { ⌜ count ≤ mostNodes ⌝ }
+    ensures { λ r. ⌜ r ≡ linksRead (links (now (s .entry)) count own kind at) ⌝ }
 {
     match reading::read_u8(s, at) {
-        Field::Cut { number, offset } => Step::Bad { number, offset },
+        Field::Cut { number, offset } => LinksRead::NoLinks { number, offset },
         Field::Value { value, next } => {
             if SUCCESSORS < value {
-                return Step::Bad {
+                return LinksRead::NoLinks {
                     number: 4,
                     offset: at,
                 };
@@ -178,7 +261,7 @@ fn read_links(s: &[u8], count: u32, own: u32, kind: u32, at: usize) -> Step
                 if kind == 1 {
                     return read_successors(s, count, own, value, next);
                 }
-                return Step::Bad {
+                return LinksRead::NoLinks {
                     number: 4,
                     offset: at,
                 };
@@ -188,8 +271,28 @@ fn read_links(s: &[u8], count: u32, own: u32, kind: u32, at: usize) -> Step
     }
 }
 
-fn read_node(s: &[u8], count: u32, own: u32, from: usize) -> Step
-    ensures { λ r. ⌜ r ≡ stepOf (node (now (s .entry)) count own from) ⌝ }
+// How many ranks a PN of a node has.
+fn rank_count(kind: u32, count: usize) -> usize
+    requires { ⌜ count ≤ 8 ⌝ }
+    ensures { λ r. ⌜ AtMost 8 (cond (eqb kind 1) count 0) r ⌝ }
+{
+    if kind == 1 {
+        return count;
+    }
+    0
+}
+
+fn read_node(
+    s: &[u8],
+    count: u32,
+    own: usize,
+    from: usize,
+    table: &mut [u16],
+    sets: &mut [u64],
+) -> Step
+    requires { ⌜ count ≤ mostNodes ⌝ }
+    requires { ⌜ RoomFor (own + 1) (now table) (now sets) ⌝ }
+    ensures { λ r. ⌜ outcome r (tables (now (table .exit)) (now (sets .exit))) ≡ runOf (fillOne own from) (node (now (s .entry)) count own from) (tables (now (table .entry)) (now (sets .entry))) ⌝ }
 {
     match reading::read_mark(s, from, b"SN") {
         Step::Bad { number, offset } => Step::Bad { number, offset },
@@ -202,27 +305,32 @@ fn read_node(s: &[u8], count: u32, own: u32, from: usize) -> Step
                         offset: at,
                     };
                 }
-                match read_links(s, count, own, value, next) {
-                    Step::Bad { number, offset } => Step::Bad { number, offset },
-                    Step::Next { at } => match read_variables_of(s, at) {
-                        Step::Bad { number, offset } => Step::Bad { number, offset },
-                        Step::Next { at } => Step::Next { at },
-                    },
+                match read_links(s, count, own as u32, value, next) {
+                    LinksRead::NoLinks { number, offset } => Step::Bad { number, offset },
+                    LinksRead::Linked {
+                        set,
+                        count: c,
+                        next: at,
+                    } => {
+                        table[NODE_SLOTS * own] = (from % 65536) as u16;
+                        sets[own] = set;
+                        read_variables_of(s, own, rank_count(value, c), at, table)
+                    }
                 }
             }
         },
     }
 }
 
-fn read_nodes(s: &[u8], count: u32, from: usize) -> Step
-    requires { ⌜ count ≤ mostNodes ⌝ }
-    ensures { λ r. ⌜ r ≡ stepOf (nodes (now (s .entry)) count count 0 from) ⌝ }
+fn read_nodes(s: &[u8], count: u32, from: usize, table: &mut [u16], sets: &mut [u64]) -> Step
+    requires { ⌜ RoomFor count (now table) (now sets) ⌝ }
+    ensures { λ r. ⌜ outcome r (tables (now (table .exit)) (now (sets .exit))) ≡ runOf (fillAll 0 from) (nodes (now (s .entry)) count count 0 from) (tables (now (table .entry)) (now (sets .entry))) ⌝ }
 {
     let mut left = count;
-    let mut own = 0;
+    let mut own: usize = 0;
     let mut at = from;
     while 0 < left {
-        match read_node(s, count, own, at) {
+        match read_node(s, count, own, at, table, sets) {
             Step::Bad { number, offset } => {
                 return Step::Bad { number, offset };
             }
@@ -236,11 +344,11 @@ fn read_nodes(s: &[u8], count: u32, from: usize) -> Step
     Step::Next { at }
 }
 
-fn read_body(s: &[u8], count: u32, from: usize) -> Step
-    requires { ⌜ count ≤ mostNodes ⌝ }
-    ensures { λ r. ⌜ r ≡ stepOf (body (now (s .entry)) count from) ⌝ }
+fn read_body(s: &[u8], count: u32, from: usize, table: &mut [u16], sets: &mut [u64]) -> Step
+    requires { ⌜ RoomFor count (now table) (now sets) ⌝ }
+    ensures { λ r. ⌜ outcome r (tables (now (table .exit)) (now (sets .exit))) ≡ runOf (fillAll 0 from) (body (now (s .entry)) count from) (tables (now (table .entry)) (now (sets .entry))) ⌝ }
 {
-    match read_nodes(s, count, from) {
+    match read_nodes(s, count, from, table, sets) {
         Step::Bad { number, offset } => Step::Bad { number, offset },
         Step::Next { at } => {
             if at < s.len() {
@@ -254,9 +362,20 @@ fn read_body(s: &[u8], count: u32, from: usize) -> Step
     }
 }
 
-// The whole file.
-pub fn read_schema(s: &[u8]) -> Step
-    ensures { λ r. ⌜ r ≡ stepOf (schema (now (s .entry))) ⌝ }
+// The count that a file tells, for the choice of its tables.
+pub fn count_in(s: &[u8]) -> usize
+    ensures { λ r. ⌜ r ≡ countIn (now (s .entry)) ⌝ }
+{
+    if s.len() < 3 {
+        return 0;
+    }
+    fields::wide(s[2])
+}
+
+// The whole file, into tables that are lent; if it is refused they hold anything.
+pub fn read_schema(s: &[u8], table: &mut [u16], sets: &mut [u64]) -> Step
+    requires { ⌜ Room (now s) (now table) (now sets) ⌝ }
+    ensures { λ r. ⌜ YieldsSchema (now (s .entry)) r (now (table .exit)) (now (sets .exit)) ⌝ }
 {
     match reading::read_mark(s, 0, b"SH") {
         Step::Bad { number, offset } => Step::Bad { number, offset },
@@ -275,7 +394,7 @@ pub fn read_schema(s: &[u8]) -> Step
                         offset: at,
                     };
                 }
-                read_body(s, value, next)
+                read_body(s, value, next, table, sets)
             }
         },
     }

@@ -10,7 +10,7 @@ use lib.ListN.{length, getD, take, drop, length-append, drop-of-length-le}
 use lib.Seq.{drop-at, length-take-le}
 use mir.Val.{toZ, ofZ, Fits}
 use mir.ValLaws.{ofZ-toZ}
-use mir.Syntax.{w8, w32, w64}
+use mir.Syntax.{w8, w32}
 use Rattle.fields.specs.Writing.{spell, put, Wrote}
 use Rattle.fields.proofs.Bytes.{Bytes, spell-length, put-none, put-put}
 use Rattle.numbers.specs.Bits.{turned}
@@ -23,7 +23,7 @@ use Rattle.schema.proofs.Accepted.{sound}
 use Rattle.schema.proofs.Access.{node-small}
 use Rattle.instances.specs.Instance.{Entry}
 use Rattle.instances.specs.File.{IH, IN, valueWidth, valuesWidth, valueOf, encodeValue, encodeValues, encodeEntry, encodeEntries, encode}
-use Rattle.instances.specs.Plan.{planned, nodesOf, valuesFrom, planOf, BitsRoom}
+use Rattle.instances.specs.Plan.{planned, nodesOf, valuesFrom, planOf}
 use Rattle.instances.proofs.Lengths.{width-number, width-listed}
 use Rattle.instances.proofs.Planned.{from-few}
 use Rattle.instances.proofs.Entries.{valuesBytes, values-length, planned-length, head-length, Own, own, AscendingFrom, none, more, planned-ascending, nodes-some, nodes-lowest, nodes-others}
@@ -118,22 +118,6 @@ module _ (x : Node) (bits : List ℕ) (n k : ℕ) (b₀ : List ℕ) (from : ℕ)
 module _ (s t : List ℕ) (n : ℕ) (i : NodeIn s t n) where
   pub node-fits : Fits w8 n
   node-fits = let z = node-small s t n i in record { fits = omega arith }
-
-  pub node-slots : Fits w64 (4 * n)
-  node-slots = let z = node-small s t n i in record { fits = omega arith }
-
-  slot-small : {c : ℕ} (k : ℕ) → AtMost 4 (length (nodeAt (schemaOf s) n .variables)) c → k < c → 4 * n + k < 256
-  slot-small k l h = let z = node-small s t n i in omega (arith, l .most)
-
-  -- and the bits have it
-  pub slot-room : {c : ℕ} (k : ℕ) (bits : List ℕ) → BitsRoom s bits → AtMost 4 (length (nodeAt (schemaOf s) n .variables)) c → k < c → 4 * n + k < length bits
-  slot-room k bits r l h = omega (arith, r .long, i .below, l .most)
-
-  pub slot-fits : {c : ℕ} (k : ℕ) → AtMost 4 (length (nodeAt (schemaOf s) n .variables)) c → k < c → Fits w64 (4 * n + k)
-  slot-fits k l h = let z = slot-small k l h in record { fits = omega arith }
-
-  pub slot-bytes : {c : ℕ} (k : ℕ) → AtMost 4 (length (nodeAt (schemaOf s) n .variables)) c → k < c → Fits w64 ((4 * n + k) * 4)
-  slot-bytes k l h = let z = slot-small k l h in record { fits = omega arith }
 
 pub entry-wrote : (g : List Node) (choices bits b : List ℕ) (n from : ℕ) {c₁ c₂ c₃ d : List ℕ} {r : ℕ} → from + 4 + valuesWidth (nodeAt g n .variables) ≤ length b → c₁ ≡ put b from IN → c₂ ≡ put c₁ (from + 2) (spell 1 n)
     → c₃ ≡ put c₂ (from + 3) (spell 1 (getD choices n 0)) → Wrote c₃ (from + 4) (valuesBytes (nodeAt g n .variables) bits (4 * n)) d r

@@ -33,7 +33,7 @@ fn put_value(v: Variable, u: u32, out: &mut [u8], at: usize) -> usize
 
 fn put_values(
     schema: &[u8],
-    table: &[usize],
+    table: &[u16],
     n: usize,
     bits: &[u32],
     out: &mut [u8],
@@ -59,7 +59,7 @@ fn put_values(
 // Node n's entry, as the arrays hold it.
 fn put_entry(
     schema: &[u8],
-    table: &[usize],
+    table: &[u16],
     n: usize,
     choices: &[u8; MOST_NODES],
     bits: &[u32],
@@ -81,7 +81,7 @@ fn put_entry(
 // entries from byte 3 on, the lowest node's first, then the head before them.
 pub fn write_planned(
     schema: &[u8],
-    table: &[usize],
+    table: &[u16],
     nodes: u64,
     choices: &[u8; MOST_NODES],
     bits: &[u32],

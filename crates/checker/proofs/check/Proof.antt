@@ -1,43 +1,47 @@
--- The schema is judged, then the policies.
--- Rests on the ruleset schemas.
-use Rattle.schema.proofs.Accepted.{accepted-by}
-use Rattle.calls.specs.Calls.{checking}
-use Rattle.calls.proofs.Inputs.{schemas}
+-- Few nodes have room in the short tables, all others in the long ones.
+-- Rests on what the tables of a schema take up.
+use Rattle.schema.proofs.Fill.{room-16, room-64}
 use borrow.Author.Needs.{needs}
 use Rattle.checker.proofs.check.Statement.{statement}
 use Rattle.checker.proofs.check.Tie as tie
 
-read-schema-requires : tie.Need-read-schema-requires
-read-schema-requires c κs = search needs
+count-in-requires : tie.Need-count-in-requires
+count-in-requires c κs = search needs
 
-enum-known-number : tie.Need-enum-known-number
-enum-known-number c = search needs
+slice-aggregate-with-tables : tie.Need-slice-aggregate-with-tables
+slice-aggregate-with-tables c = search needs
 
-refusal-requires : tie.Need-refusal-requires
-refusal-requires c κs = search needs
+slice-aggregate-with-tables-2 : tie.Need-slice-aggregate-with-tables-2
+slice-aggregate-with-tables-2 c = search needs
 
-enum-told : tie.Need-enum-told
-enum-told c = search needs
-
-with-schema-requires : tie.Need-with-schema-requires
-with-schema-requires c κs = search accepted-by
+with-tables-requires : tie.Need-with-tables-requires
+with-tables-requires c κs = search room-16
 
 returns : tie.Need-returns
-unfolding checking
-returns c = search schemas
+returns c = search needs
+
+slice-aggregate-with-tables-3 : tie.Need-slice-aggregate-with-tables-3
+slice-aggregate-with-tables-3 c = search needs
+
+slice-aggregate-with-tables-4 : tie.Need-slice-aggregate-with-tables-4
+slice-aggregate-with-tables-4 c = search needs
+
+with-tables-requires-2 : tie.Need-with-tables-requires-2
+with-tables-requires-2 c κs = search room-64
 
 returns-2 : tie.Need-returns-2
-unfolding checking
-returns-2 c = search schemas
+returns-2 c = search needs
 
 pub check-spec : {M : Type 1} → statement M
 check-spec =
     tie.close
     (tie.spec
-    read-schema-requires
-    enum-known-number
-    refusal-requires
-    enum-told
-    with-schema-requires
+    count-in-requires
+    slice-aggregate-with-tables
+    slice-aggregate-with-tables-2
+    with-tables-requires
     returns
+    slice-aggregate-with-tables-3
+    slice-aggregate-with-tables-4
+    with-tables-requires-2
     returns-2)

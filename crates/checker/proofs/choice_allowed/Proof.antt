@@ -1,6 +1,6 @@
 -- A choice is judged by its column.
 -- Rests on the laws of a choice, in Choices.
-use Rattle.checker.proofs.Choices.{choice-free, choice-rank, choice-is}
+use Rattle.checker.proofs.Choices.{choice-free, choice-is}
 use borrow.Author.Needs.{needs}
 use Rattle.checker.proofs.choice_allowed.Statement.{statement}
 use Rattle.checker.proofs.choice_allowed.Tie as tie
@@ -11,8 +11,8 @@ chooses-requires c κs = search needs
 column-of-requires : tie.Need-column-of-requires
 column-of-requires c κs = search needs
 
-column-allowed-requires : tie.Need-column-allowed-requires
-column-allowed-requires c κs = (search needs, (search needs, search choice-rank))
+is-allowed-requires : tie.Need-is-allowed-requires
+is-allowed-requires c κs = search needs
 
 returns : tie.Need-returns
 returns c = search choice-is
@@ -23,4 +23,4 @@ returns-2 c = search choice-free
 pub choice-allowed-spec : {M : Type 1} → statement M
 choice-allowed-spec =
     tie.close
-    (tie.spec chooses-requires column-of-requires column-allowed-requires returns returns-2)
+    (tie.spec chooses-requires column-of-requires is-allowed-requires returns returns-2)

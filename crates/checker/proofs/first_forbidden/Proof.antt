@@ -1,29 +1,31 @@
--- The entries from here on are left to judge.
+-- The entries of the nodes that are left are to judge.
 -- Rests on the laws of the loop, in Entries.
+use borrow.Author.Needs.{needs}
+use Prim.Native.Nat.{_-_}
 use Rattle.schema.specs.Schema.{schemaOf}
-use Rattle.policies.specs.Pass.{selected}
-use Rattle.lookup.specs.Lookup.{instanceOf}
+use Rattle.policies.specs.Rows.{noted}
+use Rattle.instances.specs.Plan.{planned, planOf}
+use Rattle.instances.specs.File.{mostBytes}
 use Rattle.model.specs.Comparing.{forbidden}
 use Rattle.checker.specs.Checks.{forbiddenIn}
-use Rattle.checker.proofs.Entries.{Walking, walking-none, walking-inside, walking-entry, walking-near, walking-fits, walking-node-in, walking-node, walking-no, walking-on, walking-done, byte-wide}
-use borrow.Author.Needs.{needs}
+use Rattle.checker.proofs.Entries.{Walking, walking-init, walking-node, walking-room, walking-head-fits, walking-no, walking-fits, walking-less, walking-step, walking-exit}
 use Rattle.checker.proofs.first_forbidden.Statement.{statement}
 use Rattle.checker.proofs.first_forbidden.Tie as tie
 
 abbrev Inv-loop : tie.InvT-loop
-Inv-loop schema table p index list rows s left₀ at₀ left at = Walking (schemaOf schema) (selected schema p list rows) s (forbiddenIn (forbidden (schemaOf schema) (selected schema p list rows) (instanceOf (schemaOf schema) s))) left at
+Inv-loop schema table p rows nodes choices bits left₀ at₀ left at = Walking (schemaOf schema) (noted (schemaOf schema) p rows) (planOf (schemaOf schema) choices bits) (forbiddenIn (forbidden (schemaOf schema) (noted (schemaOf schema) p rows) (planned (schemaOf schema) (planOf (schemaOf schema) choices bits)))) left at
 
 abbrev μ-loop : tie.MeasureT-loop
-μ-loop schema table p index list rows s left₀ at₀ left at = left
-
-shared-slice-read-left : tie.Need-shared-slice-read-left Inv-loop μ-loop
-shared-slice-read-left c = search walking-inside
+μ-loop schema table p rows nodes choices bits left₀ at₀ left at = mostBytes - at
 
 loop-holds : tie.Need-loop-holds Inv-loop μ-loop
-loop-holds c = search walking-none
+loop-holds c = search walking-init
+
+lowest-requires : tie.Need-lowest-requires Inv-loop μ-loop
+lowest-requires c κs = search needs
 
 first-in-entry-requires : tie.Need-first-in-entry-requires Inv-loop μ-loop
-first-in-entry-requires c κs = (search needs, (search needs, (search needs, search walking-entry)))
+first-in-entry-requires c κs = (search walking-node, (search needs, (search needs, search walking-room)))
 
 enum-known-offset : tie.Need-enum-known-offset Inv-loop μ-loop
 enum-known-offset c = search needs
@@ -34,17 +36,8 @@ returns c = search walking-no
 enum-told : tie.Need-enum-told Inv-loop μ-loop
 enum-told c = search needs
 
-add-n : tie.Need-add-n Inv-loop μ-loop
-add-n c = search (walking-near, needs)
-
-shared-slice-read-n : tie.Need-shared-slice-read-n Inv-loop μ-loop
-shared-slice-read-n c = search walking-node-in
-
-cast-n : tie.Need-cast-n Inv-loop μ-loop
-cast-n c = search byte-wide
-
 add-at : tie.Need-add-at Inv-loop μ-loop
-add-at c = search (walking-near, needs)
+add-at c = search walking-head-fits
 
 values-width-requires : tie.Need-values-width-requires Inv-loop μ-loop
 values-width-requires c κs = search walking-node
@@ -52,17 +45,17 @@ values-width-requires c κs = search walking-node
 add-at-2 : tie.Need-add-at-2 Inv-loop μ-loop
 add-at-2 c = search walking-fits
 
-sub-left : tie.Need-sub-left Inv-loop μ-loop
-sub-left c = search needs
+turned-bit-requires : tie.Need-turned-bit-requires Inv-loop μ-loop
+turned-bit-requires c κs = search needs
 
 loop-less : tie.Need-loop-less Inv-loop μ-loop
-loop-less c = search needs
+loop-less c = search walking-less
 
 loop-again : tie.Need-loop-again Inv-loop μ-loop
-loop-again c = search walking-on
+loop-again c = search walking-step
 
 returns-2 : tie.Need-returns-2 Inv-loop μ-loop
-returns-2 c = search walking-done
+returns-2 c = search walking-exit
 
 pub first-forbidden-spec : {M : Type 1} → statement M
 first-forbidden-spec =
@@ -70,19 +63,16 @@ first-forbidden-spec =
     (tie.spec
     Inv-loop
     μ-loop
-    shared-slice-read-left
     loop-holds
+    lowest-requires
     first-in-entry-requires
     enum-known-offset
     returns
     enum-told
-    add-n
-    shared-slice-read-n
-    cast-n
     add-at
     values-width-requires
     add-at-2
-    sub-left
+    turned-bit-requires
     loop-less
     loop-again
     returns-2)

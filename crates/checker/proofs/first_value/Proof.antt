@@ -1,45 +1,58 @@
 -- The values from here on are left to judge.
--- Rests on the laws of the loop, in Values.
-use native.Mathlib.Omega.{arith}
+-- Rests on the laws of the loop, in Values, and on the room of a node's slots.
 use borrow.Author.Needs.{needs}
-use Prim.Native.Nat.{_-_}
+use Prim.Native.Nat.{_-_, _*_}
 use Rattle.schema.specs.Schema.{schemaOf, nodeAt}
-use Rattle.policies.specs.Pass.{selected}
-use Rattle.instances.specs.File.{values}
+use Rattle.policies.specs.Rows.{noted}
+use Rattle.instances.specs.Plan.{valuesFrom}
+use Rattle.instances.proofs.Slots.{node-slots, slot-room, slot-fits, slot-bytes}
 use Rattle.model.specs.Comparing.{forbiddenValue}
-use Rattle.checker.specs.Checks.{forbiddenIn, valuesIn}
-use Rattle.checker.proofs.Values.{Judging, judging-none, judging-room, judging-fits, judging-no, judging-on, judging-done}
+use Rattle.checker.specs.Checks.{forbiddenIn}
+use Rattle.checker.proofs.Values.{Judging, judging-init, judging-below, judging-place, judging-no, number-fits, judging-number, listed-fits, judging-listed, judging-exit}
 use Rattle.checker.proofs.first_value.Statement.{statement}
 use Rattle.checker.proofs.first_value.Tie as tie
 
 abbrev Inv-loop : tie.InvT-loop
-Inv-loop schema table p index list rows n s from v c at₀ k₀ at k = Judging (schemaOf schema) (selected schema p list rows) n s (forbiddenIn (forbiddenValue (selected schema p list rows) n 0 (nodeAt (schemaOf schema) n .variables) (valuesIn (values s (nodeAt (schemaOf schema) n .variables) from)) from)) k at
+Inv-loop schema table p rows n bits from count skip₀ at₀ k₀ skip at k = Judging (schemaOf schema) (noted (schemaOf schema) p rows) n bits (forbiddenIn (forbiddenValue (noted (schemaOf schema) p rows) n 0 (nodeAt (schemaOf schema) n .variables) (valuesFrom (nodeAt (schemaOf schema) n .variables) bits (4 * n)) from)) k at skip
 
 abbrev μ-loop : tie.MeasureT-loop
-μ-loop schema table p index list rows n s from v c at₀ k₀ at k = v - k
+μ-loop schema table p rows n bits from count skip₀ at₀ k₀ skip at k = count - k
 
 variable-count-requires : tie.Need-variable-count-requires Inv-loop μ-loop
 variable-count-requires c κs = search needs
 
-conditions-of-requires : tie.Need-conditions-of-requires Inv-loop μ-loop
-conditions-of-requires c κs = search needs
+rank-count-requires : tie.Need-rank-count-requires Inv-loop μ-loop
+rank-count-requires c κs = search needs
 
 loop-holds : tie.Need-loop-holds Inv-loop μ-loop
-loop-holds c = search judging-none
+loop-holds c = search judging-init
 
-is-number-requires : tie.Need-is-number-requires Inv-loop μ-loop
-is-number-requires c κs = (search needs, search needs)
+mul-value : tie.Need-mul-value Inv-loop μ-loop
+mul-value c = search node-slots
 
-admits-requires : tie.Need-admits-requires Inv-loop μ-loop
-admits-requires c κs = (search needs, search judging-room)
+add-value : tie.Need-add-value Inv-loop μ-loop
+add-value c = search slot-fits
 
-width-of-requires : tie.Need-width-of-requires Inv-loop μ-loop
-width-of-requires c κs = search needs
+mul-value-2 : tie.Need-mul-value-2 Inv-loop μ-loop
+mul-value-2 c = search slot-bytes
+
+shared-slice-read-value : tie.Need-shared-slice-read-value Inv-loop μ-loop
+shared-slice-read-value c = search slot-room
+
+is-admitted-requires : tie.Need-is-admitted-requires Inv-loop μ-loop
+is-admitted-requires c κs = (search needs, (search needs, (search judging-below, search judging-place)))
+
+variable-of-requires : tie.Need-variable-of-requires Inv-loop μ-loop
+variable-of-requires c κs = (search needs, search judging-below)
+
+enum-told : tie.Need-enum-told Inv-loop μ-loop
+enum-told c = search needs
 
 add-at : tie.Need-add-at Inv-loop μ-loop
-add-at c =
-    judging-fits _ _ _ _ _ _ _ _ (c .before .before .before .before .before .loop .inv) (c .before .before .before .before .before .before .before .variable-count .ensures) (c .before .before .before .before .loop-test .taken) (c .before .before .before .is-number .ensures)
-    (omega (arith, c .before .before .before .before .before .before .before .before .before .before .before .before .before .good .1 .1 .1 .1 .1 .1 .1 .0)) (c .width-of .ensures)
+add-at c = search number-fits
+
+add-skip : tie.Need-add-skip Inv-loop μ-loop
+add-skip c = search needs
 
 add-k : tie.Need-add-k Inv-loop μ-loop
 add-k c = search needs
@@ -49,14 +62,42 @@ loop-less c = search needs
 
 loop-again : tie.Need-loop-again Inv-loop μ-loop
 loop-again c =
-    judging-on _ _ _ _ _ _ _ _ (c .before .before .before .before .before .loop .inv) (c .before .before .before .before .before .before .before .variable-count .ensures) (c .before .before .before .before .loop-test .taken) (c .before .before .before .is-number .ensures)
-    _ (c .before .before .before .before .before .before .conditions-of .ensures) (c .before .before .admits .ensures) (c .before .if1 .taken) (c .width-of .ensures)
+    let arm = c .before .before in
+    let judged = arm .before .before in
+    let inside = judged .before .before in
+    let loop = inside .before in
+    judging-number _ _ _ _ _ _ _ (loop .loop .inv) (loop .before .before .variable-count .ensures) (inside .loop-test .taken) (judged .is-admitted .ensures) (arm .before .if1 .taken) (arm .variable-of .ensures)
+    (c .enum-told .given .1)
+
+enum-told-2 : tie.Need-enum-told-2 Inv-loop μ-loop
+enum-told-2 c = search needs
+
+add-at-2 : tie.Need-add-at-2 Inv-loop μ-loop
+add-at-2 c = search listed-fits
+
+add-skip-2 : tie.Need-add-skip-2 Inv-loop μ-loop
+add-skip-2 c = search needs
+
+add-k-2 : tie.Need-add-k-2 Inv-loop μ-loop
+add-k-2 c = search needs
+
+loop-less-2 : tie.Need-loop-less-2 Inv-loop μ-loop
+loop-less-2 c = search needs
+
+loop-again-2 : tie.Need-loop-again-2 Inv-loop μ-loop
+loop-again-2 c =
+    let arm = c .before .before in
+    let judged = arm .before .before in
+    let inside = judged .before .before in
+    let loop = inside .before in
+    judging-listed _ _ _ _ _ _ _ (loop .loop .inv) (loop .before .before .variable-count .ensures) (inside .loop-test .taken) (judged .is-admitted .ensures) (arm .before .if1 .taken) (arm .variable-of .ensures)
+    (c .enum-told2 .given .1)
 
 returns : tie.Need-returns Inv-loop μ-loop
 returns c = search judging-no
 
 returns-2 : tie.Need-returns-2 Inv-loop μ-loop
-returns-2 c = search judging-done
+returns-2 c = search judging-exit
 
 pub first-value-spec : {M : Type 1} → statement M
 first-value-spec =
@@ -65,14 +106,25 @@ first-value-spec =
     Inv-loop
     μ-loop
     variable-count-requires
-    conditions-of-requires
+    rank-count-requires
     loop-holds
-    is-number-requires
-    admits-requires
-    width-of-requires
+    mul-value
+    add-value
+    mul-value-2
+    shared-slice-read-value
+    is-admitted-requires
+    variable-of-requires
+    enum-told
     add-at
+    add-skip
     add-k
     loop-less
     loop-again
+    enum-told-2
+    add-at-2
+    add-skip-2
+    add-k-2
+    loop-less-2
+    loop-again-2
     returns
     returns-2)

@@ -1,13 +1,16 @@
--- The instance file is judged, then what it holds.
--- Rests on the laws of the instance that was read.
-use Rattle.lookup.proofs.Lookup.{readable-by}
-use Rattle.checker.proofs.Answers.{instance-bad, instance-permitted, instance-forbidden}
+-- The instance file is judged, then what the arrays hold of it.
+-- Rests on the laws of the instance that was read, in Answers.
+use Rattle.instances.proofs.Slots.{bits-64, bits-kept}
+use Rattle.checker.proofs.Answers.{instance-nodes, instance-bad, instance-permitted, instance-forbidden}
 use borrow.Author.Needs.{needs}
 use Rattle.checker.proofs.in_force.Statement.{statement}
 use Rattle.checker.proofs.in_force.Tie as tie
 
+slice-aggregate-read-instance : tie.Need-slice-aggregate-read-instance
+slice-aggregate-read-instance c = search needs
+
 read-instance-requires : tie.Need-read-instance-requires
-read-instance-requires c κs = search needs
+read-instance-requires c κs = (search needs, (search needs, (search needs, search bits-64)))
 
 enum-known-number : tie.Need-enum-known-number
 enum-known-number c = search needs
@@ -15,14 +18,17 @@ enum-known-number c = search needs
 refusal-requires : tie.Need-refusal-requires
 refusal-requires c κs = search needs
 
-enum-told : tie.Need-enum-told
-enum-told c = search needs
+enum-known-nodes : tie.Need-enum-known-nodes
+enum-known-nodes c = search needs
+
+slice-aggregate-first-forbidden : tie.Need-slice-aggregate-first-forbidden
+slice-aggregate-first-forbidden c = search needs
 
 first-forbidden-requires : tie.Need-first-forbidden-requires
-first-forbidden-requires c κs = (search needs, (search needs, (search needs, (search needs, search readable-by))))
+first-forbidden-requires c κs = (search needs, (search needs, (search needs, (search (bits-kept, bits-64, needs), search instance-nodes))))
 
-enum-told-2 : tie.Need-enum-told-2
-enum-told-2 c = search needs
+enum-told : tie.Need-enum-told
+enum-told c = search needs
 
 success-requires : tie.Need-success-requires
 success-requires c κs = search needs
@@ -46,12 +52,14 @@ pub in-force-spec : {M : Type 1} → statement M
 in-force-spec =
     tie.close
     (tie.spec
+    slice-aggregate-read-instance
     read-instance-requires
     enum-known-number
     refusal-requires
-    enum-told
+    enum-known-nodes
+    slice-aggregate-first-forbidden
     first-forbidden-requires
-    enum-told-2
+    enum-told
     success-requires
     enum-known-offset
     refusal-requires-2

@@ -1,6 +1,6 @@
--- Few nodes have room in the short tables, all others in the long ones.
--- Rests on what a schema's table and the index of its policies take up.
-use Rattle.inputs.proofs.Above.{room-for-16, room-for-64}
+-- Few nodes have room in the short rows, all others in the long ones.
+-- Rests on what the rows of a schema take up.
+use Rattle.inputs.proofs.Above.{rows-16, rows-64}
 use borrow.Author.Needs.{needs}
 use Rattle.checker.proofs.with_schema.Statement.{statement}
 use Rattle.checker.proofs.with_schema.Tie as tie
@@ -8,26 +8,20 @@ use Rattle.checker.proofs.with_schema.Tie as tie
 count-of-requires : tie.Need-count-of-requires
 count-of-requires c κs = search needs
 
-slice-aggregate-with-tables : tie.Need-slice-aggregate-with-tables
-slice-aggregate-with-tables c = search needs
+slice-aggregate-with-rows : tie.Need-slice-aggregate-with-rows
+slice-aggregate-with-rows c = search needs
 
-slice-aggregate-with-tables-2 : tie.Need-slice-aggregate-with-tables-2
-slice-aggregate-with-tables-2 c = search needs
-
-with-tables-requires : tie.Need-with-tables-requires
-with-tables-requires c κs = search room-for-16
+with-rows-requires : tie.Need-with-rows-requires
+with-rows-requires c κs = (search needs, (search needs, search rows-16))
 
 returns : tie.Need-returns
 returns c = search needs
 
-slice-aggregate-with-tables-3 : tie.Need-slice-aggregate-with-tables-3
-slice-aggregate-with-tables-3 c = search needs
+slice-aggregate-with-rows-2 : tie.Need-slice-aggregate-with-rows-2
+slice-aggregate-with-rows-2 c = search needs
 
-slice-aggregate-with-tables-4 : tie.Need-slice-aggregate-with-tables-4
-slice-aggregate-with-tables-4 c = search needs
-
-with-tables-requires-2 : tie.Need-with-tables-requires-2
-with-tables-requires-2 c κs = search room-for-64
+with-rows-requires-2 : tie.Need-with-rows-requires-2
+with-rows-requires-2 c κs = (search needs, (search needs, search rows-64))
 
 returns-2 : tie.Need-returns-2
 returns-2 c = search needs
@@ -37,11 +31,9 @@ with-schema-spec =
     tie.close
     (tie.spec
     count-of-requires
-    slice-aggregate-with-tables
-    slice-aggregate-with-tables-2
-    with-tables-requires
+    slice-aggregate-with-rows
+    with-rows-requires
     returns
-    slice-aggregate-with-tables-3
-    slice-aggregate-with-tables-4
-    with-tables-requires-2
+    slice-aggregate-with-rows-2
+    with-rows-requires-2
     returns-2)

@@ -1,27 +1,21 @@
--- From node n up the flags of the reached nodes are right.
--- Rests on the laws of the pass over the nodes, in Flagging.
+-- From node n up the flags of the reached nodes are right, whatever instances have these choices.
+-- Rests on the laws of the sweep over the nodes, in Flagging.
 use borrow.Author.Needs.{needs}
-use Rattle.comparison.proofs.Flagging.{Flagging, flagging-start, flagging-node, flagging-small, flagging-long, flagging-more, flagging-done}
+use Rattle.comparison.proofs.Flagging.{Flagging, flagging-init, flagging-node, flagging-small, flagging-long, flagging-step, flagging-exit}
 use Rattle.comparison.proofs.as_good.Statement.{statement}
 use Rattle.comparison.proofs.as_good.Tie as tie
 
 abbrev Inv-loop : tie.InvT-loop
-Inv-loop schema table p index list rows s t x y flags₀ n₀ flags n = Flagging schema p s t list rows flags n
+Inv-loop schema table p rows first second flags₀ n₀ flags n = Flagging schema p rows first second flags n
 
 abbrev μ-loop : tie.MeasureT-loop
-μ-loop schema table p index list rows s t x y flags₀ n₀ flags n = n
-
-choices-requires : tie.Need-choices-requires Inv-loop μ-loop
-choices-requires c κs = search needs
-
-choices-requires-2 : tie.Need-choices-requires-2 Inv-loop μ-loop
-choices-requires-2 c κs = search needs
+μ-loop schema table p rows first second flags₀ n₀ flags n = n
 
 count-of-requires : tie.Need-count-of-requires Inv-loop μ-loop
 count-of-requires c κs = search needs
 
 loop-holds : tie.Need-loop-holds Inv-loop μ-loop
-loop-holds c = search flagging-start
+loop-holds c = search flagging-init
 
 sub-n : tie.Need-sub-n Inv-loop μ-loop
 sub-n c = search needs
@@ -39,16 +33,13 @@ loop-less : tie.Need-loop-less Inv-loop μ-loop
 loop-less c = search needs
 
 loop-again : tie.Need-loop-again Inv-loop μ-loop
-loop-again c =
-    flagging-more _ _ _ _ _ _ _ _ (c .before .before .before .before .before .before .loop .inv) (c .before .before .before .before .before .loop-test .taken)
-    (c .before .before .before .before .before .before .before .before .before .choices .ensures) (c .before .before .before .before .before .before .before .before .choices2 .ensures)
-    (c .before .is-good .ensures) (c .flag .ensures)
+loop-again c = search flagging-step
 
 array-read-result : tie.Need-array-read-result Inv-loop μ-loop
 array-read-result c = search needs
 
 returns : tie.Need-returns Inv-loop μ-loop
-returns c = search flagging-done
+returns c = search flagging-exit
 
 pub as-good-spec : {M : Type 1} → statement M
 as-good-spec =
@@ -56,8 +47,6 @@ as-good-spec =
     (tie.spec
     Inv-loop
     μ-loop
-    choices-requires
-    choices-requires-2
     count-of-requires
     loop-holds
     sub-n

@@ -1,13 +1,16 @@
--- File 4, then file 5, then the order each way and the verdict.
--- Rests on the ruleset instances-read.
-use Rattle.lookup.proofs.Lookup.{readable-by}
+-- File 4, then file 5, then the verdict.
+-- Rests on the ruleset instances-read, from what the reader's contract tells.
+use Rattle.instances.proofs.Slots.{bits-64, bits-kept}
 use Rattle.comparison.proofs.Call.{instances-read}
 use borrow.Author.Needs.{needs}
 use Rattle.comparison.proofs.in_force.Statement.{statement}
 use Rattle.comparison.proofs.in_force.Tie as tie
 
+slice-aggregate-read-instance : tie.Need-slice-aggregate-read-instance
+slice-aggregate-read-instance c = search needs
+
 read-instance-requires : tie.Need-read-instance-requires
-read-instance-requires c κs = search needs
+read-instance-requires c κs = (search needs, (search needs, (search needs, search bits-64)))
 
 enum-known-number : tie.Need-enum-known-number
 enum-known-number c = search needs
@@ -18,8 +21,11 @@ refusal-requires c κs = search needs
 enum-told : tie.Need-enum-told
 enum-told c = search needs
 
+slice-aggregate-read-instance-2 : tie.Need-slice-aggregate-read-instance-2
+slice-aggregate-read-instance-2 c = search needs
+
 read-instance-requires-2 : tie.Need-read-instance-requires-2
-read-instance-requires-2 c κs = search needs
+read-instance-requires-2 c κs = (search needs, (search needs, (search needs, search (bits-kept, bits-64, needs))))
 
 enum-known-number-2 : tie.Need-enum-known-number-2
 enum-known-number-2 c = search needs
@@ -30,14 +36,8 @@ refusal-requires-2 c κs = search needs
 enum-told-2 : tie.Need-enum-told-2
 enum-told-2 c = search needs
 
-as-good-requires : tie.Need-as-good-requires
-as-good-requires c κs = (search needs, (search needs, (search needs, (readable-by _ _ (c .before .before .before .before .before .read-instance .ensures) (c .before .before .before .enum-told .given .1), readable-by _ _ (c .before .before .read-instance2 .ensures) (c .enum-told2 .given .1)))))
-
-as-good-requires-2 : tie.Need-as-good-requires-2
-as-good-requires-2 c κs = (search needs, (search needs, (search needs, (readable-by _ _ (c .before .before .before .read-instance2 .ensures) (c .before .enum-told2 .given .1), readable-by _ _ (c .before .before .before .before .before .before .read-instance .ensures) (c .before .before .before .before .enum-told .given .1)))))
-
-verdict-of-requires : tie.Need-verdict-of-requires
-verdict-of-requires c κs = search needs
+verdict-requires : tie.Need-verdict-requires
+verdict-requires c κs = search needs
 
 success-requires : tie.Need-success-requires
 success-requires c κs = search needs
@@ -55,17 +55,17 @@ pub in-force-spec : {M : Type 1} → statement M
 in-force-spec =
     tie.close
     (tie.spec
+    slice-aggregate-read-instance
     read-instance-requires
     enum-known-number
     refusal-requires
     enum-told
+    slice-aggregate-read-instance-2
     read-instance-requires-2
     enum-known-number-2
     refusal-requires-2
     enum-told-2
-    as-good-requires
-    as-good-requires-2
-    verdict-of-requires
+    verdict-requires
     success-requires
     returns
     returns-2

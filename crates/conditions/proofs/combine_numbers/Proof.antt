@@ -3,16 +3,17 @@
 use Prim.Native.Nat.{_-_}
 use Rattle.schema.specs.Schema.{schemaOf}
 use Rattle.policies.specs.Policies.{range}
-use Rattle.conditions.proofs.Numbers.{Four, four-init, first-room, next-room, first-fits, next-fits, four-step, four-exit}
+use Rattle.conditions.proofs.Numbers.{Four, four-init, four-inside, first-room, next-room, next-fits, four-step, four-exit}
+use Rattle.conditions.proofs.Shorts.{short-wide}
 use borrow.Author.Needs.{needs}
 use Rattle.conditions.proofs.combine_numbers.Statement.{statement}
 use Rattle.conditions.proofs.combine_numbers.Tie as tie
 
 abbrev Inv-loop : tie.InvT-loop
-Inv-loop schema table p offsets rows n skip w₀ x₀ y₀ z₀ r₀ w x y z r = Four (schemaOf schema) p n rows offsets skip r (range (w .lo) (w .hi)) (range (x .lo) (x .hi)) (range (y .lo) (y .hi)) (range (z .lo) (z .hi))
+Inv-loop schema table p offsets count n skip w₀ x₀ y₀ z₀ r₀ w x y z r = Four (schemaOf schema) p n count offsets skip r (range (w .lo) (w .hi)) (range (x .lo) (x .hi)) (range (y .lo) (y .hi)) (range (z .lo) (z .hi))
 
 abbrev μ-loop : tie.MeasureT-loop
-μ-loop schema table p offsets rows n skip w₀ x₀ y₀ z₀ r₀ w x y z r = rows - r
+μ-loop schema table p offsets count n skip w₀ x₀ y₀ z₀ r₀ w x y z r = count - r
 
 rank-count-requires : tie.Need-rank-count-requires Inv-loop μ-loop
 rank-count-requires c κs = search needs
@@ -29,20 +30,26 @@ range-of-requires-3 c κs = search needs
 range-of-requires-4 : tie.Need-range-of-requires-4 Inv-loop μ-loop
 range-of-requires-4 c κs = search needs
 
--- the last fact handed over: the length of the policies' file fits
 loop-holds : tie.Need-loop-holds Inv-loop μ-loop
-loop-holds c =
-    let start = c .before .before .before .before .before .before .before .before in
-    search (four-init, start .pre, start .good .1 .1 .0)
+loop-holds c = search four-init
 
-mul-from : tie.Need-mul-from Inv-loop μ-loop
-mul-from c = search needs
+mul-offset : tie.Need-mul-offset Inv-loop μ-loop
+mul-offset c = search needs
 
-element-copy-out-from : tie.Need-element-copy-out-from Inv-loop μ-loop
-element-copy-out-from c = search needs
+shared-slice-read-offset : tie.Need-shared-slice-read-offset Inv-loop μ-loop
+shared-slice-read-offset c = search needs
 
-add-from : tie.Need-add-from Inv-loop μ-loop
-add-from c = search first-fits
+cast-offset : tie.Need-cast-offset Inv-loop μ-loop
+cast-offset c = search short-wide
+
+sub-ranks : tie.Need-sub-ranks Inv-loop μ-loop
+sub-ranks c = search four-inside
+
+part-ranks-start : tie.Need-part-ranks-start Inv-loop μ-loop
+part-ranks-start c = search (four-inside, needs)
+
+part-ranks-end : tie.Need-part-ranks-end Inv-loop μ-loop
+part-ranks-end c = search needs
 
 narrow-at-requires : tie.Need-narrow-at-requires Inv-loop μ-loop
 narrow-at-requires c κs = search first-room
@@ -89,9 +96,12 @@ combine-numbers-spec =
     range-of-requires-3
     range-of-requires-4
     loop-holds
-    mul-from
-    element-copy-out-from
-    add-from
+    mul-offset
+    shared-slice-read-offset
+    cast-offset
+    sub-ranks
+    part-ranks-start
+    part-ranks-end
     narrow-at-requires
     add-narrow-at
     narrow-at-requires-2

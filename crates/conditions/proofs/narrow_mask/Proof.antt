@@ -4,16 +4,17 @@ use Prim.Native.Nat.{_-_}
 use Rattle.numbers.specs.Bits.{ones}
 use Rattle.policies.specs.Policies.{mask}
 use Rattle.conditions.specs.Rules.{maskAt}
-use Rattle.conditions.proofs.Narrowing.{Narrowing, mask-init, condition-room, condition-fits, mask-step, mask-exit}
+use Rattle.conditions.proofs.Narrowing.{Narrowing, mask-init, stretch-inside, stretch-room, mask-step, mask-exit}
+use Rattle.conditions.proofs.Shorts.{short-wide}
 use borrow.Author.Needs.{needs}
 use Rattle.conditions.proofs.narrow_mask.Statement.{statement}
 use Rattle.conditions.proofs.narrow_mask.Tie as tie
 
 abbrev Inv-loop : tie.InvT-loop
-Inv-loop p offsets rows skip size m₀ r₀ m r = Narrowing (maskAt p skip) rows offsets (mask (ones size)) r (mask m)
+Inv-loop p offsets count skip size m₀ r₀ m r = Narrowing (maskAt p skip) count offsets (mask (ones size)) r (mask m)
 
 abbrev μ-loop : tie.MeasureT-loop
-μ-loop p offsets rows skip size m₀ r₀ m r = rows - r
+μ-loop p offsets count skip size m₀ r₀ m r = count - r
 
 all-values-requires : tie.Need-all-values-requires Inv-loop μ-loop
 all-values-requires c κs = search needs
@@ -21,17 +22,26 @@ all-values-requires c κs = search needs
 loop-holds : tie.Need-loop-holds Inv-loop μ-loop
 loop-holds c = search mask-init
 
-mul-u32-at : tie.Need-mul-u32-at Inv-loop μ-loop
-mul-u32-at c = search needs
+mul-offset : tie.Need-mul-offset Inv-loop μ-loop
+mul-offset c = search needs
 
-element-copy-out-u32-at : tie.Need-element-copy-out-u32-at Inv-loop μ-loop
-element-copy-out-u32-at c = search needs
+shared-slice-read-offset : tie.Need-shared-slice-read-offset Inv-loop μ-loop
+shared-slice-read-offset c = search needs
 
-add-u32-at : tie.Need-add-u32-at Inv-loop μ-loop
-add-u32-at c = search (condition-fits, needs)
+cast-offset : tie.Need-cast-offset Inv-loop μ-loop
+cast-offset c = search short-wide
+
+sub-u32-at : tie.Need-sub-u32-at Inv-loop μ-loop
+sub-u32-at c = search stretch-inside
+
+part-u32-at-start : tie.Need-part-u32-at-start Inv-loop μ-loop
+part-u32-at-start c = search (stretch-inside, needs)
+
+part-u32-at-end : tie.Need-part-u32-at-end Inv-loop μ-loop
+part-u32-at-end c = search needs
 
 u32-at-requires : tie.Need-u32-at-requires Inv-loop μ-loop
-u32-at-requires c κs = search condition-room
+u32-at-requires c κs = search stretch-room
 
 add-r : tie.Need-add-r Inv-loop μ-loop
 add-r c = search needs
@@ -53,9 +63,12 @@ narrow-mask-spec =
     μ-loop
     all-values-requires
     loop-holds
-    mul-u32-at
-    element-copy-out-u32-at
-    add-u32-at
+    mul-offset
+    shared-slice-read-offset
+    cast-offset
+    sub-u32-at
+    part-u32-at-start
+    part-u32-at-end
     u32-at-requires
     add-r
     loop-less

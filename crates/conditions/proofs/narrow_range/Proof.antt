@@ -3,31 +3,41 @@
 use Prim.Native.Nat.{_-_}
 use Rattle.policies.specs.Policies.{range}
 use Rattle.conditions.specs.Rules.{rangeAt}
-use Rattle.conditions.proofs.Narrowing.{Narrowing, narrowing-init, condition-room, condition-fits, range-step, range-exit}
+use Rattle.conditions.proofs.Narrowing.{Narrowing, narrowing-init, stretch-inside, stretch-room, range-step, range-exit}
+use Rattle.conditions.proofs.Shorts.{short-wide}
 use borrow.Author.Needs.{needs}
 use Rattle.conditions.proofs.narrow_range.Statement.{statement}
 use Rattle.conditions.proofs.narrow_range.Tie as tie
 
 abbrev Inv-loop : tie.InvT-loop
-Inv-loop p offsets rows skip least most x₀ r₀ x r = Narrowing (rangeAt p skip) rows offsets (range (x₀ .lo) (x₀ .hi)) r (range (x .lo) (x .hi))
+Inv-loop p offsets count skip least most x₀ r₀ x r = Narrowing (rangeAt p skip) count offsets (range (x₀ .lo) (x₀ .hi)) r (range (x .lo) (x .hi))
 
 abbrev μ-loop : tie.MeasureT-loop
-μ-loop p offsets rows skip least most x₀ r₀ x r = rows - r
+μ-loop p offsets count skip least most x₀ r₀ x r = count - r
 
 loop-holds : tie.Need-loop-holds Inv-loop μ-loop
 loop-holds c = search narrowing-init
 
-mul-narrow-at : tie.Need-mul-narrow-at Inv-loop μ-loop
-mul-narrow-at c = search needs
+mul-offset : tie.Need-mul-offset Inv-loop μ-loop
+mul-offset c = search needs
 
-element-copy-out-narrow-at : tie.Need-element-copy-out-narrow-at Inv-loop μ-loop
-element-copy-out-narrow-at c = search needs
+shared-slice-read-offset : tie.Need-shared-slice-read-offset Inv-loop μ-loop
+shared-slice-read-offset c = search needs
 
-add-narrow-at : tie.Need-add-narrow-at Inv-loop μ-loop
-add-narrow-at c = search (condition-fits, needs)
+cast-offset : tie.Need-cast-offset Inv-loop μ-loop
+cast-offset c = search short-wide
+
+sub-narrow-at : tie.Need-sub-narrow-at Inv-loop μ-loop
+sub-narrow-at c = search stretch-inside
+
+part-narrow-at-start : tie.Need-part-narrow-at-start Inv-loop μ-loop
+part-narrow-at-start c = search (stretch-inside, needs)
+
+part-narrow-at-end : tie.Need-part-narrow-at-end Inv-loop μ-loop
+part-narrow-at-end c = search needs
 
 narrow-at-requires : tie.Need-narrow-at-requires Inv-loop μ-loop
-narrow-at-requires c κs = search condition-room
+narrow-at-requires c κs = search stretch-room
 
 add-r : tie.Need-add-r Inv-loop μ-loop
 add-r c = search needs
@@ -48,9 +58,12 @@ narrow-range-spec =
     Inv-loop
     μ-loop
     loop-holds
-    mul-narrow-at
-    element-copy-out-narrow-at
-    add-narrow-at
+    mul-offset
+    shared-slice-read-offset
+    cast-offset
+    sub-narrow-at
+    part-narrow-at-start
+    part-narrow-at-end
     narrow-at-requires
     add-r
     loop-less

@@ -1,7 +1,7 @@
 -- Each return is one way that the mark or the node can end; the node is the lowest bit of those due.
 -- Rests on the ruleset entering.
+use Rattle.instance_reader.proofs.Reader.{lowest-node, entering}
 use borrow.Author.Needs.{needs}
-use Rattle.instance_reader.proofs.Reader.{entering, lowest-node}
 use Rattle.instance_reader.proofs.read_entry.Statement.{statement}
 use Rattle.instance_reader.proofs.read_entry.Tie as tie
 
@@ -33,7 +33,10 @@ cast-if2 : tie.Need-cast-if2
 cast-if2 c = search needs
 
 read-entry-of-requires : tie.Need-read-entry-of-requires
-read-entry-of-requires c κs = search lowest-node
+read-entry-of-requires c κs = (search lowest-node, (search needs, search needs))
+
+same-length : tie.Need-same-length
+same-length c = search needs
 
 returns-2 : tie.Need-returns-2
 returns-2 c = search entering
@@ -61,6 +64,7 @@ read-entry-spec =
     lowest-requires
     cast-if2
     read-entry-of-requires
+    same-length
     returns-2
     returns-3
     returns-4

@@ -1,8 +1,7 @@
 -- Each return is one way that the head, the entries or the end of the file can end.
--- Rests on the ruleset reading.
+-- Rests on the ruleset of-instance, which says once what the tables then hold.
+use Rattle.instance_reader.proofs.Decoded.{emptied-long, of-instance}
 use borrow.Author.Needs.{needs}
-use Rattle.fields.proofs.Reading.{reading}
-use Rattle.instances.specs.File.{instance}
 use Rattle.instance_reader.proofs.read_instance.Statement.{statement}
 use Rattle.instance_reader.proofs.read_instance.Tie as tie
 
@@ -25,33 +24,37 @@ enum-known-value : tie.Need-enum-known-value
 enum-known-value c = search needs
 
 read-entries-requires : tie.Need-read-entries-requires
-read-entries-requires c κs = search needs
+read-entries-requires c κs = (search needs, (search needs, (search emptied-long, search needs)))
 
 enum-known-number-3 : tie.Need-enum-known-number-3
 enum-known-number-3 c = search needs
 
-enum-known-at-2 : tie.Need-enum-known-at-2
-enum-known-at-2 c = search needs
+enum-known-nodes : tie.Need-enum-known-nodes
+enum-known-nodes c = search needs
+
+same-length : tie.Need-same-length
+same-length c = search needs
 
 returns : tie.Need-returns
-unfolding instance
-returns c = search reading depth 9
+returns c = search of-instance
 
 returns-2 : tie.Need-returns-2
-unfolding instance
-returns-2 c = search reading depth 9
+returns-2 c = search of-instance
 
 returns-3 : tie.Need-returns-3
-unfolding instance
-returns-3 c = search reading depth 9
+returns-3 c = search of-instance
+
+same-length-2 : tie.Need-same-length-2
+same-length-2 c = search needs
 
 returns-4 : tie.Need-returns-4
-unfolding instance
-returns-4 c = search reading depth 9
+returns-4 c = search of-instance
+
+same-length-3 : tie.Need-same-length-3
+same-length-3 c = search needs
 
 returns-5 : tie.Need-returns-5
-unfolding instance
-returns-5 c = search reading depth 9
+returns-5 c = search of-instance
 
 pub read-instance-spec : {M : Type 1} → statement M
 read-instance-spec =
@@ -65,9 +68,12 @@ read-instance-spec =
     enum-known-value
     read-entries-requires
     enum-known-number-3
-    enum-known-at-2
+    enum-known-nodes
+    same-length
     returns
     returns-2
     returns-3
+    same-length-2
     returns-4
+    same-length-3
     returns-5)

@@ -1,9 +1,7 @@
 -- Each return is one way that a listed value's field can end.
--- Rests on the ruleset reading.
+-- Rests on the ruleset listeds.
 use borrow.Author.Needs.{needs}
-use Rattle.fields.proofs.Reading.{reading}
-use Rattle.instances.specs.Instance.{inDomain}
-use Rattle.instances.specs.File.{valueWidth, valueOf, value}
+use Rattle.instance_reader.proofs.Reader.{listeds}
 use Rattle.instance_reader.proofs.read_listed.Statement.{statement}
 use Rattle.instance_reader.proofs.read_listed.Tie as tie
 
@@ -17,16 +15,13 @@ enum-known-value : tie.Need-enum-known-value
 enum-known-value c = search needs
 
 returns : tie.Need-returns
-unfolding value valueWidth valueOf inDomain
-returns c = search reading
+returns c = search listeds
 
 returns-2 : tie.Need-returns-2
-unfolding value valueWidth valueOf inDomain
-returns-2 c = search reading
+returns-2 c = search listeds
 
 returns-3 : tie.Need-returns-3
-unfolding value valueWidth valueOf inDomain
-returns-3 c = search reading
+returns-3 c = search listeds
 
 pub read-listed-spec : {M : Type 1} → statement M
 read-listed-spec =

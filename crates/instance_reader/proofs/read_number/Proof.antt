@@ -14,6 +14,9 @@ enum-known-number c = search needs
 enum-known-value : tie.Need-enum-known-value
 enum-known-value c = search needs
 
+to-unsigned-requires : tie.Need-to-unsigned-requires
+to-unsigned-requires c κs = search needs
+
 returns : tie.Need-returns
 returns c = search numbers
 
@@ -33,6 +36,7 @@ read-number-spec =
     read-i32-requires
     enum-known-number
     enum-known-value
+    to-unsigned-requires
     returns
     returns-2
     returns-3

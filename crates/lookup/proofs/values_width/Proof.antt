@@ -3,7 +3,7 @@
 use borrow.Author.Needs.{needs}
 use Prim.Native.Nat.{_-_, _≤_}
 use Rattle.schema.specs.Schema.{schemaOf, nodeAt}
-use Rattle.lookup.proofs.Lookup.{Summed, summed-none, summed-more, summed-fits, summed-done}
+use Rattle.lookup.proofs.Lookup.{Summed, summed-init, summed-step, summed-fits, summed-exit}
 use Rattle.lookup.proofs.values_width.Statement.{statement}
 use Rattle.lookup.proofs.values_width.Tie as tie
 
@@ -17,7 +17,7 @@ variable-count-requires : tie.Need-variable-count-requires Inv-loop μ-loop
 variable-count-requires c κs = search needs
 
 loop-holds : tie.Need-loop-holds Inv-loop μ-loop
-loop-holds c = search (summed-none, needs)
+loop-holds c = search (summed-init, needs)
 
 variable-of-requires : tie.Need-variable-of-requires Inv-loop μ-loop
 variable-of-requires c κs = search needs
@@ -35,10 +35,10 @@ loop-less : tie.Need-loop-less Inv-loop μ-loop
 loop-less c = search needs
 
 loop-again : tie.Need-loop-again Inv-loop μ-loop
-loop-again c = search (summed-more, needs)
+loop-again c = search (summed-step, needs)
 
 returns : tie.Need-returns Inv-loop μ-loop
-returns c = search summed-done
+returns c = search summed-exit
 
 pub values-width-spec : {M : Type 1} → statement M
 values-width-spec =

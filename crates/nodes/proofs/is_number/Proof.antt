@@ -1,6 +1,7 @@
 -- The type is the byte where the variable begins.
 -- Rests on number-yes and number-no.
 use native.Mathlib.Omega.{arith}
+use Rattle.fields.proofs.Shorts.{element-wide}
 use Rattle.schema.proofs.Access.{node-small, variable-small, variable-inside, number-yes, number-no}
 use Rattle.nodes.proofs.is_number.Statement.{statement}
 use Rattle.nodes.proofs.is_number.Tie as tie
@@ -20,6 +21,9 @@ mul-at-2 c = omega (arith, variable-small _ _ _ _ (c .pre .0) (c .pre .1))
 shared-slice-read-at : tie.Need-shared-slice-read-at
 shared-slice-read-at c = search variable-small
 
+cast-at : tie.Need-cast-at
+cast-at c = search element-wide
+
 shared-slice-read-if1 : tie.Need-shared-slice-read-if1
 shared-slice-read-if1 c = search variable-inside
 
@@ -38,6 +42,7 @@ is-number-spec =
     add-at-2
     mul-at-2
     shared-slice-read-at
+    cast-at
     shared-slice-read-if1
     returns
     returns-2)

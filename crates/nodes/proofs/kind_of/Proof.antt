@@ -1,6 +1,7 @@
 -- The kind is the byte after the mark of the record that the table tells.
 -- Rests on kind-at.
 use native.Mathlib.Omega.{arith}
+use Rattle.fields.proofs.Shorts.{element-wide}
 use Rattle.schema.proofs.Access.{node-small, node-room, node-inside, kind-at}
 use Rattle.nodes.proofs.kind_of.Statement.{statement}
 use Rattle.nodes.proofs.kind_of.Tie as tie
@@ -14,6 +15,9 @@ mul-at-2 c = omega (arith, node-small)
 shared-slice-read-at : tie.Need-shared-slice-read-at
 shared-slice-read-at c = omega (arith, node-room)
 
+cast-at : tie.Need-cast-at
+cast-at c = search element-wide
+
 add-result : tie.Need-add-result
 add-result c = omega (arith, node-inside _ _ _ (c .before .pre))
 
@@ -25,4 +29,4 @@ returns c = search kind-at
 
 pub kind-of-spec : {M : Type 1} → statement M
 kind-of-spec =
-    tie.close (tie.spec mul-at mul-at-2 shared-slice-read-at add-result shared-slice-read-result returns)
+    tie.close (tie.spec mul-at mul-at-2 shared-slice-read-at cast-at add-result shared-slice-read-result returns)

@@ -1,6 +1,7 @@
 -- The number of successors is the byte after the kind.
 -- Rests on links-at.
 use native.Mathlib.Omega.{arith}
+use Rattle.fields.proofs.Shorts.{element-wide}
 use Rattle.schema.proofs.Access.{node-small, node-room, node-inside, links-at}
 use borrow.Author.Needs.{needs}
 use Rattle.nodes.proofs.successor_count.Statement.{statement}
@@ -14,6 +15,9 @@ mul-at-2 c = omega (arith, node-small)
 
 shared-slice-read-at : tie.Need-shared-slice-read-at
 shared-slice-read-at c = omega (arith, node-room)
+
+cast-at : tie.Need-cast-at
+cast-at c = search element-wide
 
 add-wide : tie.Need-add-wide
 add-wide c = omega (arith, node-inside _ _ _ (c .before .before .before .pre))
@@ -30,4 +34,4 @@ returns c = search links-at
 pub successor-count-spec : {M : Type 1} → statement M
 successor-count-spec =
     tie.close
-    (tie.spec mul-at mul-at-2 shared-slice-read-at add-wide shared-slice-read-wide wide-requires returns)
+    (tie.spec mul-at mul-at-2 shared-slice-read-at cast-at add-wide shared-slice-read-wide wide-requires returns)

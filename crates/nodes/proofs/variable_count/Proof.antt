@@ -1,6 +1,7 @@
 -- The number of variables is the byte after the successors.
 -- Rests on variables-count.
 use native.Mathlib.Omega.{arith}
+use Rattle.fields.proofs.Shorts.{element-wide}
 use Rattle.schema.proofs.Access.{node-small, node-room, node-inside, linked-inside, variables-count}
 use borrow.Author.Needs.{needs}
 use Rattle.nodes.proofs.variable_count.Statement.{statement}
@@ -14,6 +15,9 @@ mul-at-2 c = omega (arith, node-small)
 
 shared-slice-read-at : tie.Need-shared-slice-read-at
 shared-slice-read-at c = omega (arith, node-room)
+
+cast-at : tie.Need-cast-at
+cast-at c = search element-wide
 
 add-wide : tie.Need-add-wide
 add-wide c = omega (arith, node-inside _ _ _ (c .before .before .before .pre))
@@ -46,6 +50,7 @@ variable-count-spec =
     mul-at
     mul-at-2
     shared-slice-read-at
+    cast-at
     add-wide
     shared-slice-read-wide
     wide-requires

@@ -1,6 +1,7 @@
 -- The table tells where the variable begins: its type stands there, and after it the bounds or the size.
 -- Rests on number-at and listed-at.
 use native.Mathlib.Omega.{arith}
+use Rattle.fields.proofs.Shorts.{element-wide}
 use Rattle.schema.proofs.Access.{node-small, variable-small, variable-inside, number-inside, number-at, listed-inside, listed-at}
 use Rattle.nodes.proofs.variable_of.Statement.{statement}
 use Rattle.nodes.proofs.variable_of.Tie as tie
@@ -19,6 +20,9 @@ mul-at-2 c = omega (arith, node-small, variable-small _ _ _ _ (c .before .before
 
 shared-slice-read-at : tie.Need-shared-slice-read-at
 shared-slice-read-at c = search variable-small
+
+cast-at : tie.Need-cast-at
+cast-at c = search element-wide
 
 shared-slice-read-if1 : tie.Need-shared-slice-read-if1
 shared-slice-read-if1 c = search variable-inside
@@ -56,6 +60,7 @@ variable-of-spec =
     add-at-2
     mul-at-2
     shared-slice-read-at
+    cast-at
     shared-slice-read-if1
     add-i32-at
     i32-at-requires

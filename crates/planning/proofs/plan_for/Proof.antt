@@ -1,27 +1,33 @@
--- The tables are cleared and swept; where the root is feasible, the choices tell which nodes are reached.
--- Rests on what the sweep leaves, in Answer.
-use Rattle.planning.proofs.Answer.{swept-init, plans-some, plans-none}
+-- The nodes are swept; where the root is feasible, the reached ones choose.
+-- Rests on what the sweep and the choices leave, in Answer.
+use Rattle.planning.proofs.Answer.{answer-eligible, plans-some, plans-none}
 use borrow.Author.Needs.{needs}
 use Rattle.planning.proofs.plan_for.Statement.{statement}
 use Rattle.planning.proofs.plan_for.Tie as tie
 
 sweep-nodes-requires : tie.Need-sweep-nodes-requires
-sweep-nodes-requires c κs = (search needs, (search needs, (search needs, (search needs, (search needs, (search needs, search swept-init))))))
+sweep-nodes-requires c κs = (search needs, (search needs, (search needs, (search needs, (search needs, search needs)))))
 
-array-read-if1 : tie.Need-array-read-if1
-array-read-if1 c = search needs
+has-requires : tie.Need-has-requires
+has-requires c κs = search needs
 
-reached-nodes-requires : tie.Need-reached-nodes-requires
-reached-nodes-requires c κs = search needs
+choose-nodes-requires : tie.Need-choose-nodes-requires
+choose-nodes-requires c κs = (search needs, (search needs, (search needs, (search answer-eligible, search needs))))
 
 same-length : tie.Need-same-length
 same-length c = search needs
 
+same-length-2 : tie.Need-same-length-2
+same-length-2 c = search needs
+
 returns : tie.Need-returns
 returns c = search plans-some
 
-same-length-2 : tie.Need-same-length-2
-same-length-2 c = search needs
+same-length-3 : tie.Need-same-length-3
+same-length-3 c = search needs
+
+same-length-4 : tie.Need-same-length-4
+same-length-4 c = search needs
 
 returns-2 : tie.Need-returns-2
 returns-2 c = search plans-none
@@ -31,9 +37,11 @@ plan-for-spec =
     tie.close
     (tie.spec
     sweep-nodes-requires
-    array-read-if1
-    reached-nodes-requires
+    has-requires
+    choose-nodes-requires
     same-length
-    returns
     same-length-2
+    returns
+    same-length-3
+    same-length-4
     returns-2)

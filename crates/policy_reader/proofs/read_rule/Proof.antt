@@ -1,6 +1,6 @@
 -- Each return is one way that a field or the rest of a PN can end.
 -- Rests on the laws of a PN as the code reads it.
-use Rattle.policy_reader.proofs.Rules.{node-in, body-inside, of-rule}
+use Rattle.policy_reader.proofs.Rules.{node-in, of-rule}
 use borrow.Author.Needs.{needs}
 use Rattle.policy_reader.proofs.read_rule.Statement.{statement}
 use Rattle.policy_reader.proofs.read_rule.Tie as tie
@@ -32,8 +32,8 @@ returns c = search of-rule
 returns-2 : tie.Need-returns-2
 returns-2 c = search of-rule
 
-read-body-requires : tie.Need-read-body-requires
-read-body-requires c κs = (search node-in, (search needs, search body-inside))
+read-fields-requires : tie.Need-read-fields-requires
+read-fields-requires c κs = search node-in
 
 enum-known-number-3 : tie.Need-enum-known-number-3
 enum-known-number-3 c = search needs
@@ -66,7 +66,7 @@ read-rule-spec =
     cast-node
     returns
     returns-2
-    read-body-requires
+    read-fields-requires
     enum-known-number-3
     enum-known-next
     returns-3

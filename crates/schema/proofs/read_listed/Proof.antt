@@ -1,8 +1,8 @@
 -- Each return is one way that the size field can end.
 -- Rests on the laws of reading.
-use Rattle.fields.proofs.Reading.{reading}
-use Rattle.schema.specs.Schema.{listed}
 use borrow.Author.Needs.{needs}
+use Rattle.schema.proofs.Reader.{variable-values}
+use Rattle.schema.specs.Schema.{listed}
 use Rattle.schema.proofs.read_listed.Statement.{statement}
 use Rattle.schema.proofs.read_listed.Tie as tie
 
@@ -17,19 +17,22 @@ enum-known-value c = search needs
 
 returns : tie.Need-returns
 unfolding listed
-returns c = search reading depth 9
+returns c = search variable-values depth 9
 
 returns-2 : tie.Need-returns-2
 unfolding listed
-returns-2 c = search reading depth 9
+returns-2 c = search variable-values depth 9
+
+cast-t10 : tie.Need-cast-t10
+cast-t10 c = search needs
 
 returns-3 : tie.Need-returns-3
 unfolding listed
-returns-3 c = search reading depth 9
+returns-3 c = search variable-values depth 9
 
 returns-4 : tie.Need-returns-4
 unfolding listed
-returns-4 c = search reading depth 9
+returns-4 c = search variable-values depth 9
 
 pub read-listed-spec : {M : Type 1} → statement M
 read-listed-spec =
@@ -40,5 +43,6 @@ read-listed-spec =
     enum-known-value
     returns
     returns-2
+    cast-t10
     returns-3
     returns-4)

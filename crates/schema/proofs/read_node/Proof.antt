@@ -1,8 +1,8 @@
--- Each return is one way that a field or a part can end.
--- Rests on the laws of reading.
-use Rattle.fields.proofs.Reading.{reading}
-use Rattle.schema.specs.Schema.{node}
+-- Each return is one way that a field or a part can end; at the last the table has the node.
+-- Rests on the laws of reading and node-ok.
 use borrow.Author.Needs.{needs}
+use Rattle.schema.proofs.Fill.{links-few, node-values, node-room, node-same, node-ok}
+use Rattle.schema.specs.Schema.{node}
 use Rattle.schema.proofs.read_node.Statement.{statement}
 use Rattle.schema.proofs.read_node.Tie as tie
 
@@ -26,7 +26,10 @@ enum-known-value c = search needs
 
 returns : tie.Need-returns
 unfolding node
-returns c = search reading depth 9
+returns c = search node-values depth 9
+
+cast-read-links : tie.Need-cast-read-links
+cast-read-links c = search needs
 
 read-links-requires : tie.Need-read-links-requires
 read-links-requires c κs = search needs
@@ -34,37 +37,53 @@ read-links-requires c κs = search needs
 enum-known-number-3 : tie.Need-enum-known-number-3
 enum-known-number-3 c = search needs
 
-enum-known-at-2 : tie.Need-enum-known-at-2
-enum-known-at-2 c = search needs
+enum-known-set : tie.Need-enum-known-set
+enum-known-set c = search needs
+
+cast-table : tie.Need-cast-table
+cast-table c = search needs
+
+mul-table : tie.Need-mul-table
+mul-table c = search needs
+
+mul-table-2 : tie.Need-mul-table-2
+mul-table-2 c = search needs
+
+slice-write-table : tie.Need-slice-write-table
+slice-write-table c = search needs
+
+mul-sets : tie.Need-mul-sets
+mul-sets c = search needs
+
+slice-write-sets : tie.Need-slice-write-sets
+slice-write-sets c = search needs
+
+rank-count-requires : tie.Need-rank-count-requires
+rank-count-requires c κs = search links-few
 
 read-variables-of-requires : tie.Need-read-variables-of-requires
-read-variables-of-requires c κs = search needs
-
-enum-known-number-4 : tie.Need-enum-known-number-4
-enum-known-number-4 c = search needs
-
-enum-known-at-3 : tie.Need-enum-known-at-3
-enum-known-at-3 c = search needs
+read-variables-of-requires c κs = (search node-room, search needs)
 
 returns-2 : tie.Need-returns-2
 unfolding node
-returns-2 c = search reading depth 9
+returns-2 c = search node-values depth 9
 
 returns-3 : tie.Need-returns-3
 unfolding node
-returns-3 c = search reading depth 9
+returns-3 c = search node-values depth 9
 
 returns-4 : tie.Need-returns-4
 unfolding node
-returns-4 c = search reading depth 9
+returns-4 c = search node-values depth 9
+
+same-length : tie.Need-same-length
+same-length c = search node-same
+
+same-length-2 : tie.Need-same-length-2
+same-length-2 c = search needs
 
 returns-5 : tie.Need-returns-5
-unfolding node
-returns-5 c = search reading depth 9
-
-returns-6 : tie.Need-returns-6
-unfolding node
-returns-6 c = search reading depth 9
+returns-5 c = search node-ok
 
 pub read-node-spec : {M : Type 1} → statement M
 read-node-spec =
@@ -77,14 +96,21 @@ read-node-spec =
     enum-known-number-2
     enum-known-value
     returns
+    cast-read-links
     read-links-requires
     enum-known-number-3
-    enum-known-at-2
+    enum-known-set
+    cast-table
+    mul-table
+    mul-table-2
+    slice-write-table
+    mul-sets
+    slice-write-sets
+    rank-count-requires
     read-variables-of-requires
-    enum-known-number-4
-    enum-known-at-3
     returns-2
     returns-3
     returns-4
-    returns-5
-    returns-6)
+    same-length
+    same-length-2
+    returns-5)

@@ -1,7 +1,7 @@
 -- Each return is one way that the two bounds can end.
 -- Rests on the ruleset bounds.
-use Rattle.schema.proofs.Reader.{bounds}
 use borrow.Author.Needs.{needs}
+use Rattle.schema.proofs.Reader.{bounds}
 use Rattle.schema.proofs.read_number.Statement.{statement}
 use Rattle.schema.proofs.read_number.Tie as tie
 

@@ -1,22 +1,21 @@
--- What is left to read from here equals the whole.
--- Rests on the laws of the loop over a node's successors.
+-- What is left to read from here, added to the set so far, equals the whole.
+-- Rests on the laws of the loop over a node's successors, in Reader.
 use borrow.Author.Needs.{needs}
 use mathlib.Core.Path.{_≡_}
-use Rattle.fields.specs.Answers.{stepOf}
-use Rattle.fields.proofs.Loops.{looping}
+use Rattle.schema.proofs.Reader.{linksFrom, successors-init, successors-step, successors-exit, links-looping}
+use Rattle.schema.specs.Table.{linksRead}
 use Rattle.schema.specs.Schema.{successors}
-use Rattle.schema.proofs.Reader.{successors-more}
 use Rattle.schema.proofs.read_successors.Statement.{statement}
 use Rattle.schema.proofs.read_successors.Tie as tie
 
 abbrev Inv-loop : tie.InvT-loop
-Inv-loop s count own c from left₀ above₀ at₀ left above at = stepOf (successors s count above left at) ≡ stepOf (successors s count own c from)
+Inv-loop s count own c from left₀ above₀ set₀ at₀ left above set at = linksFrom set c (successors s count above left at) ≡ linksRead (successors s count own c from)
 
 abbrev μ-loop : tie.MeasureT-loop
-μ-loop s count own c from left₀ above₀ at₀ left above at = left
+μ-loop s count own c from left₀ above₀ set₀ at₀ left above set at = left
 
 loop-holds : tie.Need-loop-holds Inv-loop μ-loop
-loop-holds c = search needs
+loop-holds c = search successors-init
 
 read-u8-requires : tie.Need-read-u8-requires Inv-loop μ-loop
 read-u8-requires c κs = search needs
@@ -25,19 +24,22 @@ enum-known-number : tie.Need-enum-known-number Inv-loop μ-loop
 enum-known-number c = search needs
 
 returns : tie.Need-returns Inv-loop μ-loop
-unfolding successors
-returns c = search looping depth 8
+returns c = search links-looping depth 8
 
 enum-known-value : tie.Need-enum-known-value Inv-loop μ-loop
 enum-known-value c = search needs
 
 returns-2 : tie.Need-returns-2 Inv-loop μ-loop
-unfolding successors
-returns-2 c = search looping depth 8
+returns-2 c = search links-looping depth 8
 
 returns-3 : tie.Need-returns-3 Inv-loop μ-loop
-unfolding successors
-returns-3 c = search looping depth 8
+returns-3 c = search links-looping depth 8
+
+cast-insert : tie.Need-cast-insert Inv-loop μ-loop
+cast-insert c = search needs
+
+insert-requires : tie.Need-insert-requires Inv-loop μ-loop
+insert-requires c κs = search needs
 
 sub-left : tie.Need-sub-left Inv-loop μ-loop
 sub-left c = search needs
@@ -46,11 +48,10 @@ loop-less : tie.Need-loop-less Inv-loop μ-loop
 loop-less c = search needs
 
 loop-again : tie.Need-loop-again Inv-loop μ-loop
-loop-again c = search successors-more
+loop-again c = search successors-step
 
 returns-4 : tie.Need-returns-4 Inv-loop μ-loop
-unfolding successors
-returns-4 c = search looping depth 8
+returns-4 c = search successors-exit
 
 pub read-successors-spec : {M : Type 1} → statement M
 read-successors-spec =
@@ -65,6 +66,8 @@ read-successors-spec =
     enum-known-value
     returns-2
     returns-3
+    cast-insert
+    insert-requires
     sub-left
     loop-less
     loop-again

@@ -1,9 +1,8 @@
 -- The type decides which rest is read.
 -- Rests on the laws of a variable's type.
-use Rattle.fields.proofs.Reading.{reading}
-use Rattle.schema.specs.Schema.{variable}
-use Rattle.schema.proofs.Reader.{type-number, type-listed, type-other}
 use borrow.Author.Needs.{needs}
+use Rattle.schema.proofs.Reader.{type-number, type-listed, type-other, variable-values}
+use Rattle.schema.specs.Schema.{variable}
 use Rattle.schema.proofs.read_variable.Statement.{statement}
 use Rattle.schema.proofs.read_variable.Tie as tie
 
@@ -30,7 +29,7 @@ returns-2 c = search type-listed
 
 returns-3 : tie.Need-returns-3
 unfolding variable
-returns-3 c = search reading depth 9
+returns-3 c = search variable-values depth 9
 
 returns-4 : tie.Need-returns-4
 returns-4 c = search type-other

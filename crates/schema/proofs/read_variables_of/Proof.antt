@@ -1,8 +1,8 @@
--- Each return is one way that a field or a part can end.
--- Rests on the laws of reading.
-use Rattle.fields.proofs.Reading.{reading}
-use Rattle.schema.specs.Schema.{variablesOf}
+-- Each return is one way that the number of variables, or they, can end.
+-- Rests on the laws of reading and variables-of-ok.
 use borrow.Author.Needs.{needs}
+use Rattle.schema.proofs.Fill.{variables-values, variables-of-ok}
+use Rattle.schema.specs.Schema.{variablesOf}
 use Rattle.schema.proofs.read_variables_of.Statement.{statement}
 use Rattle.schema.proofs.read_variables_of.Tie as tie
 
@@ -17,18 +17,23 @@ enum-known-value c = search needs
 
 returns : tie.Need-returns
 unfolding variablesOf
-returns c = search reading depth 9
+returns c = search variables-values depth 9
+
+cast-read-variables : tie.Need-cast-read-variables
+cast-read-variables c = search needs
 
 read-variables-requires : tie.Need-read-variables-requires
 read-variables-requires c κs = search needs
 
 returns-2 : tie.Need-returns-2
 unfolding variablesOf
-returns-2 c = search reading depth 9
+returns-2 c = search variables-values depth 9
+
+same-length : tie.Need-same-length
+same-length c = search needs
 
 returns-3 : tie.Need-returns-3
-unfolding variablesOf
-returns-3 c = search reading depth 9
+returns-3 c = search variables-of-ok
 
 pub read-variables-of-spec : {M : Type 1} → statement M
 read-variables-of-spec =
@@ -38,6 +43,8 @@ read-variables-of-spec =
     enum-known-number
     enum-known-value
     returns
+    cast-read-variables
     read-variables-requires
     returns-2
+    same-length
     returns-3)

@@ -3,7 +3,8 @@
 use borrow.Author.Needs.{needs}
 use Prim.Native.Nat.{_-_}
 use Rattle.schema.specs.Schema.{schemaOf, nodeAt}
-use Rattle.writer.proofs.Writer.{PuttingValues, values-init, values-room, values-step, values-exit, node-slots, slot-room, slot-fits, slot-bytes}
+use Rattle.writer.proofs.Writer.{PuttingValues, values-init, values-room, values-step, values-exit}
+use Rattle.instances.proofs.Slots.{node-slots, slot-room, slot-fits, slot-bytes}
 use Rattle.writer.proofs.put_values.Statement.{statement}
 use Rattle.writer.proofs.put_values.Tie as tie
 
