@@ -47,14 +47,6 @@ fn with_successors(schema: &[u8], table: &[u16], n: usize, m: u64) -> u64
     r
 }
 
-// The set of node n's successors.
-pub fn successor_set(schema: &[u8], table: &[u16], n: usize) -> u64
-    requires { ⌜ NodeIn (now schema) (now table) n ⌝ }
-    ensures { λ r. ⌜ r ≡ withAll 0 (nodeAt (schemaOf (now (schema .entry))) n .successors) ⌝ }
-{
-    with_successors(schema, table, n, 0)
-}
-
 // The set with the nodes that node n reaches by choice c.
 pub fn reach(schema: &[u8], table: &[u16], n: usize, c: usize, m: u64) -> u64
     requires { ⌜ NodeIn (now schema) (now table) n ⌝ }

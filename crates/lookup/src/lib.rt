@@ -8,7 +8,7 @@ use instances::NUMBER_WIDTH;
 use schema::Variable;
 
 // How many bytes a value has in an instance file.
-pub fn value_width(v: Variable) -> usize
+fn value_width(v: Variable) -> usize
     ensures { λ r. ⌜ r ≡ valueWidth v ⌝ }
 {
     match v {

@@ -2,7 +2,6 @@
 // their ranks.
 ghost use mathlib.Core.Path.{_≡_};
 ghost use Prim.Native.Nat.{_+_, _*_, _<_, _≤_, min, max};
-ghost use lib.ListN.{length};
 ghost use Rattle.policies.specs.Policies.{mostPolicies};
 ghost use Rattle.schema.specs.Schema.{schemaOf, nodeAt};
 ghost use Rattle.schema.specs.Table.{NodeIn, AtMost};

@@ -16,12 +16,14 @@ use fields::Step;
 use inputs::Inputs;
 use instances::MOST_BYTES;
 use nodes::FEW_NODES;
+use nodes::FEW_TABLE_SLOTS;
 use nodes::FEWEST_NODES;
+use nodes::FEWEST_TABLE_SLOTS;
+use nodes::TABLE_SLOTS;
 use planning::Plan;
 use policies::ROW_SLOTS;
 use schema::MOST_NODES;
 use schema::MOST_VARIABLES;
-use schema::NODE_SLOTS;
 
 // Whether so much room is less than the file of these nodes has bytes; room for the longest file is not.
 fn is_short(schema: &[u8], table: &[u16], nodes: u64, room: usize) -> bool
@@ -206,16 +208,16 @@ pub fn reconcile(schema: &[u8], policies: &[u8], a: u16, b: u16, out: &mut [u8])
 {
     let count = schema::count_in(schema);
     if count <= FEWEST_NODES {
-        let mut table = [0u16; NODE_SLOTS * FEWEST_NODES];
+        let mut table = [0u16; FEWEST_TABLE_SLOTS];
         let mut sets = [0u64; FEWEST_NODES];
         return with_tables(schema, policies, a, b, &mut table, &mut sets, out);
     }
     if count <= FEW_NODES {
-        let mut table = [0u16; NODE_SLOTS * FEW_NODES];
+        let mut table = [0u16; FEW_TABLE_SLOTS];
         let mut sets = [0u64; FEW_NODES];
         return with_tables(schema, policies, a, b, &mut table, &mut sets, out);
     }
-    let mut table = [0u16; NODE_SLOTS * MOST_NODES];
+    let mut table = [0u16; TABLE_SLOTS];
     let mut sets = [0u64; MOST_NODES];
     with_tables(schema, policies, a, b, &mut table, &mut sets, out)
 }
