@@ -1,27 +1,28 @@
 -- A node with four variables, all numbers: how that is told, and the loop over the offsets that narrows all four.
 -- Rests on the laws of one variable's turn, in Narrowing.
-use mathlib.Core.Path.{_≡_, refl, ap, ap₂, sym, _∙_}
+use mathlib.Core.Path.{_≡_, refl, ap, sym, _∙_}
 use mathlib.Core.Bool.{Bool, true, false, _&&_}
 use mathlib.Core.List.{List, [], _∷_}
 use Prim.Native.Nat.{ℕ, zero, suc, _+_, _*_, _≤_, _<_, _^_}
 use native.Mathlib.Omega.{arith}
 use native.Mathlib.Nat.{zero-add}
-use native.Mathlib.Numerals.{add-one}
 use borrow.Author.Tests.{eqb-true, eq-eqb, ne-eqb}
 use lib.Dec.{eqb}
-use lib.ListN.{length, getD, take, drop, drop-of-length-le}
-use lib.Seq.{drop-cons, ext-getD}
+use lib.ListN.{length, getD, take}
+use lib.Seq.{ext-getD}
 use lib.IntN.{ℤ}
 use lib.Signed.{mag}
 use mir.Syntax.{w32, w64}
 use mir.Val.{Fits, toZ, ofZ}
 use Rattle.fields.specs.Reading.{be, signed}
-use Rattle.fields.proofs.Tests.{and-yes, and-no, and-no-2, and-true, never}
-use Rattle.schema.specs.Schema.{Node, nodeAt, noVariable, variableAt, isNumber}
-use Rattle.schema.specs.Table.{AtMost}
+use Rattle.fields.proofs.Tests.{and-no, and-true, never}
+use Rattle.schema.specs.Schema.{Node, schemaOf, nodeAt, noVariable, variableAt, isNumber}
+use Rattle.schema.specs.Table.{NodeIn, AtMost}
 use Rattle.schema.specs.declared.Variable.{Variable}
 use Rattle.schema.specs.declared.Variable.the-variants.{Number, Listed}
-use Rattle.schema.specs.Layout.{rankCount, span, spans, offsetOf}
+use Rattle.schema.specs.Layout.{rankCount, span, spans, offsetOf, masksOf, Laid}
+use Rattle.schema.proofs.Access.{laid}
+use Rattle.nodes.specs.declared.Bounds.{Bounds}
 use Rattle.policies.specs.Policies.{Condition, range, mask, Policy}
 use Rattle.model.specs.Satisfaction.{every}
 use Rattle.model.specs.Reconciling.{own, both, restrictAll, combined}
@@ -29,51 +30,32 @@ use Rattle.model.proofs.Values.{combined-at}
 use Rattle.conditions.specs.Least.{rangesIn}
 use Rattle.policies.specs.Rows.{rulesAt, RulesAt}
 use Rattle.conditions.specs.Rules.{BytesAt, rangeAt, narrowedBy, fourNumbers}
-use Rattle.conditions.specs.declared.Range.{Range}
 use Rattle.conditions.proofs.Rules.{ConditionIn, ranges-bytes, ranges-left}
 use Rattle.conditions.proofs.Least.{combined-length}
 use Rattle.conditions.proofs.Narrowing.{Narrowing, stretch, stretch-inside, stretch-room, range-step, narrowing-exit, kept}
 
 -- ---- the test
 
--- the variables from k on are left
-pub record Testing (vs : List Variable) (k : ℕ) : Type 0 where
-  pub four : length vs ≡ 4
-  pub left : every isNumber (drop k vs) ≡ every isNumber vs
+masks-none : (vs : List Variable) → eqb (masksOf vs) 0 ≡ every isNumber vs
+unfolding masksOf
+masks-none [] = refl
+masks-none (Number lo hi ∷ vs) = masks-none vs
+masks-none (Listed size ∷ vs) = ne-eqb (masksOf vs + 1) 0 (λ e. omega arith)
 
-pub testing-init : (vs : List Variable) {v : ℕ} → AtMost 4 (length vs) v → v ≡ 4 → Testing vs 0
-testing-init vs m h = record { four = omega (arith, m .is); left = refl }
+pub masks-room : (s t : List ℕ) (n : ℕ) → NodeIn s t n → 16 * n + 6 < length t
+masks-room s t n h = omega (arith, h .below, h .table .long)
 
-pub testing-other : (vs : List Variable) {v : ℕ} → AtMost 4 (length vs) v → (v ≡ 4 → ⊥) → false ≡ fourNumbers vs
+pub four-other : (vs : List Variable) {v : ℕ} → AtMost 4 (length vs) v → (v ≡ 4 → ⊥) → false ≡ fourNumbers vs
 unfolding fourNumbers
-testing-other vs m h = sym (and-no (every isNumber vs) (ne-eqb (length vs) 4 (λ e. h (m .is ∙ e))))
+four-other vs m h = sym (and-no (every isNumber vs) (ne-eqb (length vs) 4 (λ e. h (m .is ∙ e))))
 
-module _ (vs : List Variable) (k : ℕ) (w : Testing vs k) where
-  here : k < 4 → every isNumber vs ≡ (isNumber (getD vs k noVariable) && every isNumber (drop (k + 1) vs))
-  here h =
-      sym (w .left)
-      ∙ ap (every isNumber) (drop-cons vs k noVariable (omega (arith, w .four)))
-      ∙ ap (λ (i : ℕ). isNumber (getD vs k noVariable) && every isNumber (drop i vs)) (sym (add-one k))
-
-  pub testing-below : k < 4 → k < length vs
-  testing-below h = omega (arith, w .four)
-
-  pub testing-step : {x : Bool} → k < 4 → x ≡ isNumber (getD vs k noVariable) → x ≡ true → Testing vs (k + 1)
-  testing-step h e t =
-      record {
-        four = w .four;
-        left = sym (here h ∙ ap (λ (b : Bool). b && every isNumber (drop (k + 1) vs)) (sym e ∙ t));
-      }
-
-  pub testing-bad : {x : Bool} → k < 4 → x ≡ isNumber (getD vs k noVariable) → x ≡ false → false ≡ fourNumbers vs
-  unfolding fourNumbers
-  testing-bad h e t = sym (and-no-2 (eq-eqb (length vs) 4 (w .four)) (here h ∙ and-no (every isNumber (drop (k + 1) vs)) (sym e ∙ t)))
-
-  pub testing-exit : 4 ≤ k → true ≡ fourNumbers vs
-  unfolding fourNumbers
-  testing-exit h =
-      sym (and-yes (eq-eqb (length vs) 4 (w .four))
-      (sym (w .left) ∙ ap (every isNumber) (drop-of-length-le vs {i = k} (omega (arith, w .four)))))
+pub four-masks : (s t : List ℕ) (n : ℕ) {v : ℕ} → NodeIn s t n → AtMost 4 (length (nodeAt (schemaOf s) n .variables)) v → v ≡ 4
+    → eqb (getD t (16 * n + 6) 0) 0 ≡ fourNumbers (nodeAt (schemaOf s) n .variables)
+unfolding fourNumbers
+four-masks s t n h m e =
+    ap (λ (c : ℕ). eqb c 0) (laid s t (h .table) .each n (h .below) .masks)
+    ∙ masks-none (nodeAt (schemaOf s) n .variables)
+    ∙ ap (λ (b : Bool). b && every isNumber (nodeAt (schemaOf s) n .variables)) (sym (eq-eqb (length (nodeAt (schemaOf s) n .variables)) 4 (sym (m .is) ∙ e)))
 
 -- ---- what it tells
 
@@ -109,15 +91,8 @@ spans-numbers (v ∷ vs) (suc k) e h =
 pub four-below : (vs : List Variable) (k : ℕ) → fourNumbers vs ≡ true → k < 4 → k < length vs
 four-below vs k f h = omega (arith, four-length vs f)
 
--- the schema's range of a variable, as the code hands it on
-pub own-range : (vs : List Variable) (k : ℕ) {x : Variable} {a b : ℤ} → x ≡ getD vs k noVariable → x ≡ Number a b → mag a < 2 ^ 31 → mag b < 2 ^ 31
-    → range (toZ w32 (ofZ w32 a)) (toZ w32 (ofZ w32 b)) ≡ own (getD vs k noVariable)
-unfolding own
-own-range vs k {a = a} {b} e i fa fb = ap₂ range (kept a fa) (kept b fb) ∙ ap own (sym i ∙ e)
-
--- it is not a listed one
-pub own-other : (vs : List Variable) (k : ℕ) {x : Variable} {size : ℕ} {c : Condition} → fourNumbers vs ≡ true → k < 4 → x ≡ getD vs k noVariable → x ≡ Listed size → c ≡ own (getD vs k noVariable)
-own-other vs k f h e i = never (sym (ap isNumber (sym e ∙ i)) ∙ number-at vs k (every-number vs f) (four-below vs k f h))
+pub four-number : (vs : List Variable) (k : ℕ) → fourNumbers vs ≡ true → k < 4 → isNumber (getD vs k noVariable) ≡ true
+four-number vs k f h = number-at vs k (every-number vs f) (four-below vs k f h)
 
 -- ---- the loop
 
@@ -138,16 +113,22 @@ pub record Four (g : List Node) (p : List ℕ) (n count : ℕ) (offsets : List �
   pub first : AtMost 8 (rankCount (nodeAt g n)) skip
   pub each : (k : ℕ) → k < 4 → Left g p n count offsets skip r (w ∷ x ∷ y ∷ z ∷ []) k
 
-pub four-init : (g : List Node) (p : List ℕ) (n count : ℕ) (offsets : List ℕ) {skip : ℕ} {w x y z : Condition} → RulesAt g p n count offsets
+pub four-init : (g : List Node) (p : List ℕ) (n count : ℕ) (offsets : List ℕ) {skip : ℕ} (w x y z : Bounds) → RulesAt g p n count offsets
     → fourNumbers (nodeAt g n .variables) ≡ true → AtMost 8 (rankCount (nodeAt g n)) skip
-    → w ≡ own (variableAt g n 0) → x ≡ own (variableAt g n 1) → y ≡ own (variableAt g n 2) → z ≡ own (variableAt g n 3)
-    → Four g p n count offsets skip 0 w x y z
-four-init g p n count offsets {skip} {w} {x} {y} {z} f t m ew ex ey ez =
+    → Number (w .lo) (w .hi) ≡ variableAt g n 0 → Number (x .lo) (x .hi) ≡ variableAt g n 1 → Number (y .lo) (y .hi) ≡ variableAt g n 2 → Number (z .lo) (z .hi) ≡ variableAt g n 3
+    → Four g p n count offsets skip 0 (range (w .lo) (w .hi)) (range (x .lo) (x .hi)) (range (y .lo) (y .hi)) (range (z .lo) (z .hi))
+unfolding own
+four-init g p n count offsets {skip} w x y z f t m ew ex ey ez =
     record {
       rules = f;
       numbers = t;
       first = m;
-      each = below-four (Left g p n count offsets skip 0 (w ∷ x ∷ y ∷ z ∷ [])) (start 0 ew) (start 1 ex) (start 2 ey) (start 3 ez);
+      each =
+          below-four (Left g p n count offsets skip 0 (range (w .lo) (w .hi) ∷ range (x .lo) (x .hi) ∷ range (y .lo) (y .hi) ∷ range (z .lo) (z .hi) ∷ []))
+          (start 0 (ap own ew))
+          (start 1 (ap own ex))
+          (start 2 (ap own ey))
+          (start 3 (ap own ez));
     }
   where
     start : (k : ℕ) {c : Condition} → c ≡ own (variableAt g n k) → Narrowing (rangeAt p (skip + 8 * k)) count offsets (own (variableAt g n k)) 0 c
@@ -234,7 +215,7 @@ module _ (g : List Node) (p : List ℕ) (n count : ℕ) (offsets : List ℕ) (sk
       sym (done-at h k l)
 
 -- the record, as the code makes it of the bounds
-pub four-exit : (g : List Node) (p : List ℕ) (n count : ℕ) (offsets : List ℕ) (skip r : ℕ) (w x y z : Range)
+pub four-exit : (g : List Node) (p : List ℕ) (n count : ℕ) (offsets : List ℕ) (skip r : ℕ) (w x y z : Bounds)
     → Four g p n count offsets skip r (range (w .lo) (w .hi)) (range (x .lo) (x .hi)) (range (y .lo) (y .hi)) (range (z .lo) (z .hi)) → count ≤ r
     → mag (w .lo) < 2 ^ 31 → mag (x .lo) < 2 ^ 31 → mag (y .lo) < 2 ^ 31 → mag (z .lo) < 2 ^ 31
     → mag (w .hi) < 2 ^ 31 → mag (x .hi) < 2 ^ 31 → mag (y .hi) < 2 ^ 31 → mag (z .hi) < 2 ^ 31

@@ -15,17 +15,19 @@ ghost use Rattle.policies.specs.Rows.{rulesAt, RulesAt, noted, rulesFor, Noted}
 ghost use Rattle.instances.specs.File.{valueOf};
 ghost use Rattle.instances.specs.Plan.{BitsRoom};
 ghost use Rattle.model.specs.Satisfaction.{admitted};
-ghost use Rattle.model.specs.Reconciling.{own, both, combined};
+ghost use Rattle.model.specs.Reconciling.{both, combined};
 ghost use Rattle.order.specs.Order.{rowSlot};
 ghost use Rattle.conditions.specs.Least.{LeastIn, rangesIn};
 ghost use Rattle.conditions.specs.Rules.{BytesAt, rangeAt, maskAt, narrowedBy, inRange, inRanges, inMask, inMasks, fourNumbers};
 ghost use Rattle.conditions.specs.Ranks.{allowedColumn, Bans, betterColumn, orderBy, rankOrder, RanksGathered, allowedAt, rankByte, rankAt, BansEight, RowFilled, betterAt, AllAlike};
+use nodes::Bounds;
 use order::RANKS;
 use policies::MASK_WIDTH;
 use policies::MOST_POLICIES;
 use policies::RANGE_WIDTH;
 use schema::MOST_SUCCESSORS;
 use schema::MOST_VARIABLES;
+use schema::NODE_SLOTS;
 use schema::Variable;
 
 // The slots of a node in the rows: how many policies name it, then where the ranks of each begin.
@@ -55,18 +57,12 @@ pub enum RankOrder {
     Alike,
 }
 
-// The bounds of a number.
-struct Range {
-    lo: i32,
-    hi: i32,
-}
-
 // The range x, narrowed by the condition that stands so far from the first rank of a PN, with which the slice begins.
-fn narrow_at(ranks: &[u8], skip: usize, x: Range) -> Range
+fn narrow_at(ranks: &[u8], skip: usize, x: Bounds) -> Bounds
     requires { ⌜ skip + rangeWidth ≤ length (now ranks) ⌝ }
     ensures { λ r. ⌜ range (r .lo) (r .hi) ≡ both (range (x .lo) (x .hi)) (range (signed (be 4 (now (ranks .entry)) skip)) (signed (be 4 (now (ranks .entry)) (skip + 4)))) ⌝ }
 {
-    Range {
+    Bounds {
         lo: numbers::greater(x.lo, fields::i32_at(ranks, skip)),
         hi: numbers::lesser(x.hi, fields::i32_at(ranks, skip + 4)),
     }
@@ -80,11 +76,11 @@ fn narrow_range(
     skip: usize,
     least: i32,
     most: i32,
-) -> Range
+) -> Bounds
     requires { ⌜ BytesAt (now p) count (now offsets) (skip + rangeWidth) ⌝ }
     ensures { λ r. ⌜ range (r .lo) (r .hi) ≡ narrowedBy (rangeAt (now (p .entry)) skip) (take count (now (offsets .entry))) (range least most) ⌝ }
 {
-    let mut x = Range {
+    let mut x = Bounds {
         lo: least,
         hi: most,
     };
@@ -113,7 +109,7 @@ fn narrow_mask(p: &[u8], offsets: &[u16], count: usize, skip: usize, size: u8) -
     m
 }
 
-// Whether node n has four variables, all numbers.
+// Whether node n has four variables, all numbers: the table has how many are listed.
 fn has_four_numbers(schema: &[u8], table: &[u16], n: usize) -> bool
     requires { ⌜ NodeIn (now schema) (now table) n ⌝ }
     ensures { λ r. ⌜ r ≡ fourNumbers (nodeAt (schemaOf (now (schema .entry))) n .variables) ⌝ }
@@ -121,28 +117,7 @@ fn has_four_numbers(schema: &[u8], table: &[u16], n: usize) -> bool
     if nodes::variable_count(schema, table, n) != MOST_VARIABLES {
         return false;
     }
-    let mut k: usize = 0;
-    while k < MOST_VARIABLES {
-        if nodes::is_number(schema, table, n, k) {
-            k += 1;
-        } else {
-            return false;
-        }
-    }
-    true
-}
-
-// The schema's range of node n's variable k, one of four numbers.
-fn range_of(schema: &[u8], table: &[u16], n: usize, k: usize) -> Range
-    requires { ⌜ NodeIn (now schema) (now table) n ⌝ }
-    requires { ⌜ fourNumbers (nodeAt (schemaOf (now schema)) n .variables) ≡ true ⌝ }
-    requires { ⌜ k < 4 ⌝ }
-    ensures { λ r. ⌜ range (r .lo) (r .hi) ≡ own (variableAt (schemaOf (now (schema .entry))) n k) ⌝ }
-{
-    match nodes::variable_of(schema, table, n, k) {
-        Variable::Number { lo, hi } => Range { lo, hi },
-        Variable::Listed { size: _ } => Range { lo: 0, hi: 0 },
-    }
+    table[NODE_SLOTS * n + 6] == 0
 }
 
 // The combined conditions of node n, which has four numbers: each PN narrows all four in turn.
@@ -160,10 +135,10 @@ fn combine_numbers(
     ensures { λ r. ⌜ rangesIn r ≡ combined (schemaOf (now (schema .entry))) (rulesAt (schemaOf (now (schema .entry))) (now (p .entry)) n (take count (now (offsets .entry)))) n ⌝ }
 {
     let skip = policies::rank_count(schema, table, n);
-    let mut w = range_of(schema, table, n, 0);
-    let mut x = range_of(schema, table, n, 1);
-    let mut y = range_of(schema, table, n, 2);
-    let mut z = range_of(schema, table, n, 3);
+    let mut w = nodes::bounds_of(schema, table, n, 0);
+    let mut x = nodes::bounds_of(schema, table, n, 1);
+    let mut y = nodes::bounds_of(schema, table, n, 2);
+    let mut z = nodes::bounds_of(schema, table, n, 3);
     let mut r: usize = 0;
     while r < count {
         let offset = offsets[r] as usize;
@@ -244,7 +219,7 @@ fn least_each(
         match nodes::variable_of(schema, table, n, k) {
             Variable::Number { lo, hi } => {
                 let x = narrow_range(p, offsets, count, skip, lo, hi);
-                let Range { lo, hi } = x;
+                let Bounds { lo, hi } = x;
                 c.lo[k] = lo;
                 c.hi[k] = hi;
                 if c.hi[k] < c.lo[k] {

@@ -1,8 +1,10 @@
 // The tables of an accepted schema's nodes, by their length, and the accessors to its nodes.
 ghost use mathlib.Core.Path.{_≡_};
+ghost use mathlib.Core.Bool.{true};
 ghost use Prim.Native.Nat.{_<_};
 ghost use lib.ListN.{length};
 ghost use Rattle.schema.specs.Schema.{mostNodes, schemaOf, nodeAt, variableAt, isNumber};
+ghost use Rattle.schema.specs.declared.Variable.the-variants.{Number};
 ghost use Rattle.schema.specs.Table.{Accepted, NodeIn, AtMost, SuccessorIs};
 use schema::MOST_NODES;
 use schema::NODE_SLOTS;
@@ -20,6 +22,12 @@ pub const FEW_TABLE_SLOTS: usize = NODE_SLOTS * FEW_NODES;
 pub const FEWEST_NODES: usize = 4;
 
 pub const FEWEST_TABLE_SLOTS: usize = NODE_SLOTS * FEWEST_NODES;
+
+// The least and the greatest value of a number.
+pub struct Bounds {
+    pub lo: i32,
+    pub hi: i32,
+}
 
 // The number of nodes.
 pub fn count_of(s: &[u8]) -> usize
@@ -83,15 +91,15 @@ pub fn variable_of(s: &[u8], table: &[u16], n: usize, k: usize) -> Variable
     Variable::Listed { size: s[at + 1] }
 }
 
-// Whether node n's variable k is a number.
-pub fn is_number(s: &[u8], table: &[u16], n: usize, k: usize) -> bool
+// The bounds of node n's variable k, a number.
+pub fn bounds_of(s: &[u8], table: &[u16], n: usize, k: usize) -> Bounds
     requires { ⌜ NodeIn (now s) (now table) n ⌝ }
     requires { ⌜ k < length (nodeAt (schemaOf (now s)) n .variables) ⌝ }
-    ensures { λ r. ⌜ r ≡ isNumber (variableAt (schemaOf (now (s .entry))) n k) ⌝ }
+    requires { ⌜ isNumber (variableAt (schemaOf (now s)) n k) ≡ true ⌝ }
+    ensures { λ r. ⌜ Number (r .lo) (r .hi) ≡ variableAt (schemaOf (now (s .entry))) n k ⌝ }
 {
     let at = table[NODE_SLOTS * n + 1 + k] as usize;
-    if s[at] == 0 {
-        return true;
-    }
-    false
+    let lo = fields::i32_at(s, at + 1);
+    let hi = fields::i32_at(s, at + 5);
+    Bounds { lo, hi }
 }

@@ -42,11 +42,19 @@ pub fn with(m: u64, n: usize) -> u64
     if n < 64 { insert(m, n) } else { m }
 }
 
-// The set with node n turned: taken out if it was in.
+// The set with node n turned, which is below 64: taken out if it was in.
+pub fn flip(m: u64, n: usize) -> u64
+    requires { ⌜ n < 64 ⌝ }
+    ensures { λ r. ⌜ r ≡ turned m n ⌝ }
+{
+    m ^ (1 << n)
+}
+
+// The same, for any number: from 64 on nothing is turned.
 pub fn turned_bit(m: u64, n: usize) -> u64
     ensures { λ r. ⌜ r ≡ turned m n ⌝ }
 {
-    if n < 64 { m ^ (1 << n) } else { m }
+    if n < 64 { flip(m, n) } else { m }
 }
 
 // The set with node n taken out.

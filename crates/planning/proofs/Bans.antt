@@ -3,11 +3,11 @@
 use mathlib.Core.Path.{_≡_, refl, ap, sym, subst, _∙_}
 use mathlib.Core.Bool.{Bool, true, false, not, _&&_}
 use mathlib.Core.List.{List}
-use Prim.Native.Nat.{ℕ, _+_, _*_, _≤_, _<_}
+use Prim.Native.Nat.{ℕ, zero, suc, _+_, _*_, _≤_, _<_, max}
 use native.Mathlib.Omega.{arith}
 use native.Mathlib.Decide.{decLt}
-use borrow.Author.Tests.{eq-eqb, ne-eqb, eqb-true}
-use lib.Dec.{eqb}
+use borrow.Author.Tests.{eq-eqb, ne-eqb, eqb-true, ltb-true}
+use lib.Dec.{eqb, ltb}
 use lib.ListN.{length, getD}
 use Rattle.fields.proofs.Bytes.{Bytes}
 use Rattle.fields.proofs.Tests.{and-yes, and-true, not-not, not-yes, never, alike}
@@ -19,29 +19,56 @@ use Rattle.schema.specs.Layout.{rankCount}
 use Rattle.schema.proofs.Accepted.{sound}
 use Rattle.policies.specs.Policies.{Policy}
 use Rattle.policies.specs.Rows.{noted, Noted}
-use Rattle.instances.specs.Instance.{elem}
+use Rattle.instances.specs.Instance.{elem, chooses}
 use Rattle.model.specs.Satisfaction.{allowed}
 use Rattle.model.proofs.Lists.{at-elem, Place, elem-at}
 use Rattle.order.proofs.Successors.{successor-small}
 use Rattle.conditions.specs.Ranks.{allowedColumn, Bans}
 use Rattle.conditions.proofs.Ranks.{allowed-successor}
-use Rattle.planning.specs.Sweep.{Columns, Allowed}
+use Rattle.planning.specs.Sweep.{Columns, NoneBanned, Allowed}
 use Rattle.planning.proofs.Unnamed.{unnamed-allowed}
+use Rattle.planning.proofs.Node.{node-columns}
 
 -- column k is not banned
 abbrev pub unbanned : List ℕ → ℕ → Bool
 unbanned bans k = not (eqb (getD bans k 0) 255)
 
--- ---- the columns so far
+-- ---- the greatest of the eight is below 255
 
-pub column-inside : (g : List Node) (n k : ℕ) {columns : ℕ} → AtMost 8 (length (nodeAt g n .successors)) columns → k < columns → k < length (nodeAt g n .successors)
-column-inside g n k c h = omega (arith, c .is)
+over : (a b : ℕ) {r : ℕ} → r ≡ max a b → (a ≤ r) × (b ≤ r)
+over a b e = (omega arith, omega arith)
+
+chain : {x a e r : ℕ} → x ≤ a → a ≤ e → e ≤ r → r < 255 → x ≡ 255 → ⊥
+chain h l m n z = omega arith
+
+past : (k : ℕ) → suc (suc (suc (suc (suc (suc (suc (suc k))))))) < 8 → ⊥
+past k v = omega arith
+
+pub none-banned : (t : List ℕ) {a b c d e f r : ℕ} → a ≡ max (getD t 0 0) (getD t 1 0) → b ≡ max (getD t 2 0) (getD t 3 0) → c ≡ max (getD t 4 0) (getD t 5 0) → d ≡ max (getD t 6 0) (getD t 7 0)
+    → e ≡ max a b → f ≡ max c d → r ≡ max e f → NoneBanned t (ltb r 255)
+none-banned t {a} {b} {c} {d} {e} {f} {r} qa qb qc qd qe qf qr = record { each = λ q k v z. one k v (ltb-true r 255 q) z }
+  where
+    one : (k : ℕ) → k < 8 → r < 255 → getD t k 0 ≡ 255 → ⊥
+    one zero v l z = chain (over (getD t 0 0) (getD t 1 0) qa .0) (over a b qe .0) (over e f qr .0) l z
+    one (suc zero) v l z = chain (over (getD t 0 0) (getD t 1 0) qa .1) (over a b qe .0) (over e f qr .0) l z
+    one (suc (suc zero)) v l z = chain (over (getD t 2 0) (getD t 3 0) qb .0) (over a b qe .1) (over e f qr .0) l z
+    one (suc (suc (suc zero))) v l z = chain (over (getD t 2 0) (getD t 3 0) qb .1) (over a b qe .1) (over e f qr .0) l z
+    one (suc (suc (suc (suc zero)))) v l z = chain (over (getD t 4 0) (getD t 5 0) qc .0) (over c d qf .0) (over e f qr .1) l z
+    one (suc (suc (suc (suc (suc zero))))) v l z = chain (over (getD t 4 0) (getD t 5 0) qc .1) (over c d qf .0) (over e f qr .1) l z
+    one (suc (suc (suc (suc (suc (suc zero)))))) v l z = chain (over (getD t 6 0) (getD t 7 0) qd .0) (over c d qf .1) (over e f qr .1) l z
+    one (suc (suc (suc (suc (suc (suc (suc zero))))))) v l z = chain (over (getD t 6 0) (getD t 7 0) qd .1) (over c d qf .1) (over e f qr .1) l z
+    one (suc (suc (suc (suc (suc (suc (suc (suc k)))))))) v l z = past k v
+
+-- ---- the columns so far
 
 pub record Dropping (g : List Node) (n : ℕ) (bans : List ℕ) (set k r : ℕ) : Type 0 where
   pub upto : k ≤ length (nodeAt g n .successors)
   pub within : (x : ℕ) → bit r x ≡ true → bit set x ≡ true
   pub clear : (x i : ℕ) → bit r x ≡ true → i < k → getD (nodeAt g n .successors) i 0 ≡ x → unbanned bans i ≡ true
   pub stays : (x : ℕ) → bit set x ≡ true → ((i : ℕ) → i < k → getD (nodeAt g n .successors) i 0 ≡ x → unbanned bans i ≡ true) → bit r x ≡ true
+
+pub dropping-inside : (g : List Node) (n : ℕ) (bans : List ℕ) (set k r : ℕ) {columns : ℕ} → Dropping g n bans set k r → AtMost 8 (length (nodeAt g n .successors)) columns → k < columns → k < length (nodeAt g n .successors)
+dropping-inside g n bans set k r w c l = omega (arith, c .is)
 
 pub dropping-init : (g : List Node) (n : ℕ) (bans : List ℕ) (set : ℕ) → Dropping g n bans set 0 set
 dropping-init g n bans set = record { upto = omega arith; within = λ x t. t; clear = λ x i t h. absurd (omega arith); stays = λ x t f. t }
@@ -106,6 +133,22 @@ module _ (schema table : List ℕ) (qs : List Policy) (n : ℕ) (bans : List ℕ
           (λ t. and-yes (w .within x t) (ap (allowed g qs n) (sym (u .is)) ∙ sym (same-allowed (u .place) o) ∙ w .clear x (u .place) t (omega arith) (u .is)))
           (λ t. let z = and-true (bit set x) (allowed g qs n x) t in
           w .stays x (z .0) (λ i v a. same-allowed i (omega (arith, w .upto, c .is)) ∙ ap (allowed g qs n) a ∙ z .1))
+
+-- no column is banned
+pub allowed-unbanned : (schema table : List ℕ) (qs : List Policy) (n : ℕ) (bans : List ℕ) (set : ℕ) {r : Bool} → NoneBanned bans r → r ≡ true → NodeIn schema table n → Bytes schema
+    → chooses (nodeAt (schemaOf schema) n) ≡ true → Bans (allowedColumn qs n) (rankCount (nodeAt (schemaOf schema) n)) bans → Allowed (schemaOf schema) qs n set set
+allowed-unbanned schema table qs n bans set w q h y u B =
+    dropping-exit schema table qs n bans h y c B set (length (nodeAt (schemaOf schema) n .successors)) set
+    (record { upto = omega arith; within = λ x t. t; clear = λ x i t l a. free i (omega (arith, few)); stays = λ x t f. t }) (omega arith)
+  where
+    few : length (nodeAt (schemaOf schema) n .successors) ≤ 8
+    few = sound schema y (let z = h .below in omega arith) .nodes n (h .below) .few
+
+    c : Columns schema n (length (nodeAt (schemaOf schema) n .successors))
+    c = node-columns schema table n h (record { is = refl; most = few }) u
+
+    free : (i : ℕ) → i < 8 → unbanned bans i ≡ true
+    free i l = ap not (ne-eqb (getD bans i 0) 255 (w .each q i l))
 
 -- no policy names the node
 pub allowed-unnamed : (schema table p rows : List ℕ) (n set : ℕ) → NodeIn schema table n → Noted schema p rows → getD rows (17 * n) 0 ≡ 0 → Allowed (schemaOf schema) (noted (schemaOf schema) p rows) n set set

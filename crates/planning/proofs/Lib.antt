@@ -1,8 +1,8 @@
 pub mod Tables
 pub mod Unnamed
 pub mod Picking
-pub mod Bans
 pub mod Node
+pub mod Bans
 pub mod Sweep
 pub mod Reaching
 pub mod Measuring

@@ -16,9 +16,9 @@ use lib.ListN.{length, getD, replicate, set, length-set, length-replicate, getD-
 use lib.Seq.{getD-set-same, getD-set-other}
 use Rattle.fields.proofs.Bytes.{Bytes}
 use Rattle.fields.proofs.Tests.{and-true, or-true, not-yes, never}
-use Rattle.numbers.specs.Bits.{bit, with, without}
+use Rattle.numbers.specs.Bits.{bit, with, turned}
 use Rattle.numbers.specs.Lowest.{Lowest}
-use Rattle.numbers.proofs.Bits.{pow-bit, no-bit, with-bit, without-bit, or-bit, lowest-bit, tz-least, tz-above, bits-same}
+use Rattle.numbers.proofs.Bits.{pow-bit, no-bit, with-bit, turned-bit, or-bit, lowest-bit, tz-least, tz-above, bits-same}
 use Rattle.schema.specs.Schema.{Node, schemaOf, nodeAt}
 use Rattle.schema.specs.Table.{Tabled, SetsIn, NodeIn}
 use Rattle.schema.proofs.Sound.{Sound}
@@ -161,6 +161,16 @@ module _ (schema : List ℕ) (qs : List Policy) (eligible choices : List ℕ) (l
   module _ {n : ℕ} (l : Lowest 64 left n) where
     left-here : bit left n ≡ true
     left-here = lowest-bit 64 left l
+
+    -- turned, it is taken out
+    left-turned : (j : ℕ) → bit (turned left n) j ≡ bit left j && not (eqb j n)
+    left-turned j = turned-bit left n j (l .small) ∙ go (eqb j n) (bit left j) (λ t. ap (bit left) (eqb-true j n t) ∙ left-here)
+      where
+        go : (t b : Bool) → (t ≡ true → b ≡ true) → cond t (not b) b ≡ b && not t
+        go true true f = refl
+        go true false f = never (f refl)
+        go false true f = refl
+        go false false f = refl
 
     here : n < length g
     here = w .inside n left-here
@@ -343,21 +353,24 @@ module _ (schema : List ℕ) (qs : List Policy) (eligible choices : List ℕ) (l
         range : (n < x) × (x < length g)
         range = successor-in g A n x (top .0)
 
+        pub choice-below : x < 64
+        choice-below = let z = range .1 in omega (arith, A .few)
+
         pub choice-small : x < 256
-        choice-small = let z = range .1 in omega (arith, A .few)
+        choice-small = omega (arith, choice-below)
 
         plan-choice : plan g rules n .choice ≡ x
         unfolding plan
         plan-choice = rw chooses-here (ap (λ (d : Option ℕ). Option·getD d 255) (taken-eligible ∙ c .is))
 
-        step-choose : {left₁ left' nodes' : ℕ} → left₁ ≡ without left n → left' ≡ with left₁ x → nodes' ≡ with nodes n → Stepped left' nodes' (set choices n x)
+        step-choose : {left₁ left' nodes' : ℕ} → left₁ ≡ turned left n → left' ≡ with left₁ x → nodes' ≡ with nodes n → Stepped left' nodes' (set choices n x)
         unfolding reaches
         step-choose {left₁} {left'} a d s =
             record {
               to = λ j.
                   ap (λ (m : ℕ). bit m j) d
                   ∙ with-bit left₁ x j (let z = range .1 in omega (arith, A .few))
-                  ∙ ap (λ (b : Bool). b || eqb j x) (ap (λ (m : ℕ). bit m j) a ∙ without-bit left n j (l .small))
+                  ∙ ap (λ (b : Bool). b || eqb j x) (ap (λ (m : ℕ). bit m j) a ∙ left-turned j)
                   ∙ ap (λ (b : Bool). (bit left j && not (eqb j n)) || b) (or-none (eqb j x) ∙ ap (elem j) (sym only));
               onward = λ j m. let q : j ≡ x = elem-one j x (ap (elem j) (sym only) ∙ m) in
                   (let z = range .0 in omega arith, let z = range .1 in omega arith, ap (can g rules) q ∙ eligible-successor x (top .1) .1);
@@ -370,7 +383,7 @@ module _ (schema : List ℕ) (qs : List Policy) (eligible choices : List ℕ) (l
             only : cond (chooses (nodeAt g n)) (plan g rules n .choice ∷ []) (nodeAt g n .successors) ≡ x ∷ []
             only = rw chooses-here (ap (λ (c : ℕ). c ∷ []) plan-choice)
 
-        module _ {left₁ left' nodes' : ℕ} (a : left₁ ≡ without left n) (d : left' ≡ with left₁ x) (s : nodes' ≡ with nodes n) where
+        module _ {left₁ left' nodes' : ℕ} (a : left₁ ≡ turned left n) (d : left' ≡ with left₁ x) (s : nodes' ≡ with nodes n) where
           pub choosing-step : Choosing g qs (set choices n x) left' nodes'
           choosing-step = stepped (step-choose a d s)
 
@@ -383,7 +396,7 @@ module _ (schema : List ℕ) (qs : List Policy) (eligible choices : List ℕ) (l
       pub choosing-set : n < length sets
       choosing-set = omega (arith, here, d .long)
 
-      module _ {b : Bool} (e : b ≡ chooses (nodeAt g n)) (t : b ≡ false) {left₁ nodes' : ℕ} (a : left₁ ≡ without left n) (s : nodes' ≡ with nodes n) where
+      module _ {b : Bool} (e : b ≡ chooses (nodeAt g n)) (t : b ≡ false) {left₁ nodes' : ℕ} (a : left₁ ≡ turned left n) (s : nodes' ≡ with nodes n) where
         all-here : chooses (nodeAt g n) ≡ false
         all-here = sym e ∙ t
 
@@ -400,7 +413,7 @@ module _ (schema : List ℕ) (qs : List Policy) (eligible choices : List ℕ) (l
             record {
               to = λ j.
                   or-bit left₁ (getD sets n 0) j
-                  ∙ ap₂ (λ (b c : Bool). b || c) (ap (λ (m : ℕ). bit m j) a ∙ without-bit left n j (l .small)) (ap (λ (m : ℕ). bit m j) (d .each n here) ∙ successors-bit g A n j ∙ ap (elem j) (sym all));
+                  ∙ ap₂ (λ (b c : Bool). b || c) (ap (λ (m : ℕ). bit m j) a ∙ left-turned j) (ap (λ (m : ℕ). bit m j) (d .each n here) ∙ successors-bit g A n j ∙ ap (elem j) (sym all));
               onward = λ j m.
                   let u : elem j (nodeAt g n .successors) ≡ true = ap (elem j) (sym all) ∙ m in
                   let z = successor-in g A n j u in

@@ -45,6 +45,9 @@ values-same (v ∷ vs) t u k f =
 pub sweep-node : (schema table : List ℕ) (n : ℕ) → Tabled schema table → 0 < n → n ≤ length (schemaOf schema) → NodeIn schema table (n - 1)
 sweep-node schema table n t h l = record { table = t; below = omega arith }
 
+pub sweep-small : (schema : List ℕ) (n : ℕ) → Bytes schema → 0 < n → n ≤ length (schemaOf schema) → n - 1 < 64
+sweep-small schema n y h l = let z = sound schema y (omega arith) .few in omega arith
+
 -- ---- before the first
 
 pub sweep-count : (schema : List ℕ) {n : ℕ} → AtMost 64 (length (schemaOf schema)) n → n ≤ length (schemaOf schema)

@@ -39,6 +39,10 @@ pub record Choice (g : List Node) (n set : ℕ) : Type 0 where
 pub record Chosen (g : List Node) (qs : List Policy) (n set x : ℕ) : Type 0 where
   pub is : best (bit set) (better g qs n) (nodeAt g n .successors) ≡ some x
 
+-- r is true only if no column is banned
+pub record NoneBanned (bans : List ℕ) (r : Bool) : Type 0 where
+  pub each : r ≡ true → (k : ℕ) → k < 8 → getD bans k 0 ≡ 255 → ⊥
+
 -- r is a set without those successors of node n that these policies forbid
 pub record Allowed (g : List Node) (qs : List Policy) (n set r : ℕ) : Type 0 where
   pub successors : (x : ℕ) → elem x (nodeAt g n .successors) ≡ true → bit r x ≡ bit set x && allowed g qs n x

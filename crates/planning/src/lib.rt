@@ -2,6 +2,7 @@
 // values, then which of them are reached and what these choose, and how long the instance's file is.
 ghost use mathlib.Core.Path.{_≡_};
 ghost use mathlib.Core.Bool.{true};
+ghost use Prim.Native.Nat.{max};
 ghost use lib.ListN.{length, replicate};
 ghost use Rattle.schema.specs.Schema.{mostNodes, schemaOf, nodeAt};
 ghost use Rattle.schema.specs.Table.{NodeIn, Accepted, Tabled, SetsIn, AtMost};
@@ -11,7 +12,7 @@ ghost use Rattle.instances.specs.File.{mostBytes};
 ghost use Rattle.instances.specs.Plan.{BitsRoom};
 ghost use Rattle.model.specs.Reconciling.{reconciled};
 ghost use Rattle.planning.specs.Plan.{EligibleRoom, Plans, entriesLength, fileLength};
-ghost use Rattle.planning.specs.Sweep.{Columns, SuccessorsIn, Choice, Chosen, Allowed, NodePlanned, Swept, Eligible, Reached};
+ghost use Rattle.planning.specs.Sweep.{Columns, SuccessorsIn, Choice, Chosen, NoneBanned, Allowed, NodePlanned, Swept, Eligible, Reached};
 use instances::ENTRY_WIDTH;
 use instances::HEAD_WIDTH;
 use order::RANKS;
@@ -95,6 +96,26 @@ fn choose(schema: &[u8], table: &[u16], p: &[u8], rows: &[u16], n: usize, eligib
     choose_by_ranks(schema, table, p, rows, n, eligible)
 }
 
+// The greater of two ranks.
+fn greater_rank(a: u8, b: u8) -> u8
+    ensures { λ r. ⌜ r ≡ max a b ⌝ }
+{
+    if a < b { b } else { a }
+}
+
+// Whether no column is banned, by the greatest of the eight.
+fn none_banned(bans: &[u8; MOST_SUCCESSORS]) -> bool
+    ensures { λ r. ⌜ NoneBanned (now (bans .entry)) r ⌝ }
+{
+    let a = greater_rank(bans[0], bans[1]);
+    let b = greater_rank(bans[2], bans[3]);
+    let c = greater_rank(bans[4], bans[5]);
+    let d = greater_rank(bans[6], bans[7]);
+    let e = greater_rank(a, b);
+    let f = greater_rank(c, d);
+    greater_rank(e, f) < 255
+}
+
 // A set of nodes without those successors of node n, which chooses, that a noted policy forbids.
 fn keep_allowed(schema: &[u8], table: &[u16], p: &[u8], rows: &[u16], n: usize, nodes: u64) -> u64
     requires { ⌜ NodeIn (now schema) (now table) n ⌝ }
@@ -105,10 +126,13 @@ fn keep_allowed(schema: &[u8], table: &[u16], p: &[u8], rows: &[u16], n: usize, 
     if rows[ROW_SLOTS * n] == 0 {
         return nodes;
     }
-    let columns = nodes::successor_count(schema, table, n);
     let mut bans = [0u8; MOST_SUCCESSORS];
     conditions::bans(schema, table, p, rows, n, &mut bans);
     let mut kept = nodes;
+    if none_banned(&bans) {
+        return kept;
+    }
+    let columns = nodes::successor_count(schema, table, n);
     let mut k: usize = 0;
     while k < columns {
         if bans[k] == 255 {
@@ -177,7 +201,7 @@ fn sweep_nodes(
     while 0 < n {
         n -= 1;
         if plan_node(schema, table, sets, p, rows, n, feasible, eligible, bits) {
-            feasible = numbers::with(feasible, n);
+            feasible = numbers::insert(feasible, n);
         }
     }
     feasible
@@ -204,12 +228,12 @@ fn choose_nodes(
     let mut left: u64 = 1;
     while 0 < left {
         let n = numbers::lowest(left);
-        reached = numbers::with(reached, n);
-        left = numbers::without(left, n);
+        reached = numbers::insert(reached, n);
+        left = numbers::flip(left, n);
         if instances::chooses(schema, table, n) {
             let x = choose(schema, table, p, rows, n, eligible[n]);
             choices[n] = x as u8;
-            left = numbers::with(left, x);
+            left = numbers::insert(left, x);
         } else {
             left = left | sets[n];
         }

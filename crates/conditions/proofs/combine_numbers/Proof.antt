@@ -3,7 +3,7 @@
 use Prim.Native.Nat.{_-_}
 use Rattle.schema.specs.Schema.{schemaOf}
 use Rattle.policies.specs.Policies.{range}
-use Rattle.conditions.proofs.Numbers.{Four, four-init, four-inside, first-room, next-room, next-fits, four-step, four-exit}
+use Rattle.conditions.proofs.Numbers.{Four, four-below, four-number, four-init, four-inside, first-room, next-room, next-fits, four-step, four-exit}
 use Rattle.conditions.proofs.Shorts.{short-wide}
 use borrow.Author.Needs.{needs}
 use Rattle.conditions.proofs.combine_numbers.Statement.{statement}
@@ -18,17 +18,17 @@ abbrev μ-loop : tie.MeasureT-loop
 rank-count-requires : tie.Need-rank-count-requires Inv-loop μ-loop
 rank-count-requires c κs = search needs
 
-range-of-requires : tie.Need-range-of-requires Inv-loop μ-loop
-range-of-requires c κs = search needs
+bounds-of-requires : tie.Need-bounds-of-requires Inv-loop μ-loop
+bounds-of-requires c κs = search (four-below, four-number, needs)
 
-range-of-requires-2 : tie.Need-range-of-requires-2 Inv-loop μ-loop
-range-of-requires-2 c κs = search needs
+bounds-of-requires-2 : tie.Need-bounds-of-requires-2 Inv-loop μ-loop
+bounds-of-requires-2 c κs = search (four-below, four-number, needs)
 
-range-of-requires-3 : tie.Need-range-of-requires-3 Inv-loop μ-loop
-range-of-requires-3 c κs = search needs
+bounds-of-requires-3 : tie.Need-bounds-of-requires-3 Inv-loop μ-loop
+bounds-of-requires-3 c κs = search (four-below, four-number, needs)
 
-range-of-requires-4 : tie.Need-range-of-requires-4 Inv-loop μ-loop
-range-of-requires-4 c κs = search needs
+bounds-of-requires-4 : tie.Need-bounds-of-requires-4 Inv-loop μ-loop
+bounds-of-requires-4 c κs = search (four-below, four-number, needs)
 
 loop-holds : tie.Need-loop-holds Inv-loop μ-loop
 loop-holds c = search four-init
@@ -91,10 +91,10 @@ combine-numbers-spec =
     Inv-loop
     μ-loop
     rank-count-requires
-    range-of-requires
-    range-of-requires-2
-    range-of-requires-3
-    range-of-requires-4
+    bounds-of-requires
+    bounds-of-requires-2
+    bounds-of-requires-3
+    bounds-of-requires-4
     loop-holds
     mul-offset
     shared-slice-read-offset

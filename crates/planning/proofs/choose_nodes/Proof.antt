@@ -5,7 +5,7 @@ use lib.Count.{trailingZeros}
 use Rattle.schema.specs.Schema.{schemaOf}
 use Rattle.policies.specs.Rows.{noted}
 use Rattle.planning.proofs.Node.{node-chooses}
-use Rattle.planning.proofs.Reaching.{Choosing, choosing-init, choosing-node, choosing-slot, choosing-choice, choice-small, choosing-step, choosing-less, choosing-set, choosing-all, choosing-all-less, choosing-exit}
+use Rattle.planning.proofs.Reaching.{Choosing, choosing-init, choosing-node, choosing-slot, choosing-choice, choice-below, choice-small, choosing-step, choosing-less, choosing-set, choosing-all, choosing-all-less, choosing-exit}
 use borrow.Author.Needs.{needs}
 use Rattle.planning.proofs.choose_nodes.Statement.{statement}
 use Rattle.planning.proofs.choose_nodes.Tie as tie
@@ -22,11 +22,11 @@ loop-holds c = search choosing-init
 lowest-requires : tie.Need-lowest-requires Inv-loop μ-loop
 lowest-requires c κs = search needs
 
-with-requires : tie.Need-with-requires Inv-loop μ-loop
-with-requires c κs = search needs
+insert-requires : tie.Need-insert-requires Inv-loop μ-loop
+insert-requires c κs = search needs
 
-without-requires : tie.Need-without-requires Inv-loop μ-loop
-without-requires c κs = search needs
+flip-requires : tie.Need-flip-requires Inv-loop μ-loop
+flip-requires c κs = search needs
 
 chooses-requires : tie.Need-chooses-requires Inv-loop μ-loop
 chooses-requires c κs = search choosing-node
@@ -46,8 +46,8 @@ cast-choices c = record { fits = search choice-small }
 element-write-choices : tie.Need-element-write-choices Inv-loop μ-loop
 element-write-choices c = search needs
 
-with-requires-2 : tie.Need-with-requires-2 Inv-loop μ-loop
-with-requires-2 c κs = search needs
+insert-requires-2 : tie.Need-insert-requires-2 Inv-loop μ-loop
+insert-requires-2 c κs = search choice-below
 
 loop-less : tie.Need-loop-less Inv-loop μ-loop
 loop-less c = search choosing-less
@@ -78,15 +78,15 @@ choose-nodes-spec =
     μ-loop
     loop-holds
     lowest-requires
-    with-requires
-    without-requires
+    insert-requires
+    flip-requires
     chooses-requires
     mul-choose
     shared-slice-read-choose
     choose-requires
     cast-choices
     element-write-choices
-    with-requires-2
+    insert-requires-2
     loop-less
     loop-again
     mul-left

@@ -2,17 +2,17 @@
 -- Rests on the laws of the columns, in Bans.
 use Prim.Native.Nat.{_-_}
 use Rattle.schema.specs.Schema.{schemaOf}
-use Rattle.planning.proofs.Bans.{Dropping, dropping-init, column-inside, dropping-keep, dropping-step, dropping-exit, allowed-unnamed}
+use Rattle.planning.proofs.Bans.{Dropping, dropping-init, dropping-inside, dropping-keep, dropping-step, dropping-exit, allowed-unnamed, allowed-unbanned}
 use Rattle.planning.proofs.Node.{node-columns}
 use borrow.Author.Needs.{needs}
 use Rattle.planning.proofs.keep_allowed.Statement.{statement}
 use Rattle.planning.proofs.keep_allowed.Tie as tie
 
 abbrev Inv-loop : tie.InvT-loop
-Inv-loop schema table p rows n nodes columns bans kept₀ k₀ kept k = Dropping (schemaOf schema) n bans nodes k kept
+Inv-loop schema table p rows n nodes bans kept₀ columns k₀ kept k = Dropping (schemaOf schema) n bans nodes k kept
 
 abbrev μ-loop : tie.MeasureT-loop
-μ-loop schema table p rows n nodes columns bans kept₀ k₀ kept k = columns - k
+μ-loop schema table p rows n nodes bans kept₀ columns k₀ kept k = columns - k
 
 mul-if1 : tie.Need-mul-if1 Inv-loop μ-loop
 mul-if1 c = search needs
@@ -26,20 +26,26 @@ shared-slice-read-if1 c = search needs
 returns : tie.Need-returns Inv-loop μ-loop
 returns c = search allowed-unnamed
 
-successor-count-requires : tie.Need-successor-count-requires Inv-loop μ-loop
-successor-count-requires c κs = search needs
-
 bans-requires : tie.Need-bans-requires Inv-loop μ-loop
 bans-requires c κs = (search needs, (search needs, search needs))
+
+none-banned-requires : tie.Need-none-banned-requires Inv-loop μ-loop
+none-banned-requires c κs = search needs
+
+returns-2 : tie.Need-returns-2 Inv-loop μ-loop
+returns-2 c = search allowed-unbanned
+
+successor-count-requires : tie.Need-successor-count-requires Inv-loop μ-loop
+successor-count-requires c κs = search needs
 
 loop-holds : tie.Need-loop-holds Inv-loop μ-loop
 loop-holds c = search dropping-init
 
-array-read-if2 : tie.Need-array-read-if2 Inv-loop μ-loop
-array-read-if2 c = search needs
+array-read-if3 : tie.Need-array-read-if3 Inv-loop μ-loop
+array-read-if3 c = search needs
 
 successor-of-requires : tie.Need-successor-of-requires Inv-loop μ-loop
-successor-of-requires c κs = (search needs, search column-inside)
+successor-of-requires c κs = (search needs, dropping-inside _ _ _ _ _ _ (c .before .before .loop .inv) (c .before .before .before .successor-count .ensures) (c .before .loop-test .taken))
 
 without-requires : tie.Need-without-requires Inv-loop μ-loop
 without-requires c κs = search needs
@@ -62,8 +68,8 @@ loop-less-2 c = search needs
 loop-again-2 : tie.Need-loop-again-2 Inv-loop μ-loop
 loop-again-2 c = search dropping-keep
 
-returns-2 : tie.Need-returns-2 Inv-loop μ-loop
-returns-2 c = search (dropping-exit, node-columns)
+returns-3 : tie.Need-returns-3 Inv-loop μ-loop
+returns-3 c = search (dropping-exit, node-columns)
 
 pub keep-allowed-spec : {M : Type 1} → statement M
 keep-allowed-spec =
@@ -75,10 +81,12 @@ keep-allowed-spec =
     mul-if1-2
     shared-slice-read-if1
     returns
-    successor-count-requires
     bans-requires
+    none-banned-requires
+    returns-2
+    successor-count-requires
     loop-holds
-    array-read-if2
+    array-read-if3
     successor-of-requires
     without-requires
     add-k
@@ -87,4 +95,4 @@ keep-allowed-spec =
     add-k-2
     loop-less-2
     loop-again-2
-    returns-2)
+    returns-3)

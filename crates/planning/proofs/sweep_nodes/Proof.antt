@@ -6,7 +6,7 @@ use lib.ListN.{length}
 use Rattle.schema.specs.Schema.{schemaOf}
 use Rattle.policies.specs.Rows.{noted}
 use Rattle.planning.specs.Sweep.{Swept}
-use Rattle.planning.proofs.Sweep.{sweep-init, sweep-count, sweep-node, sweep-infeasible, sweep-feasible, sweep-exit}
+use Rattle.planning.proofs.Sweep.{sweep-init, sweep-count, sweep-node, sweep-small, sweep-infeasible, sweep-feasible, sweep-exit}
 use borrow.Author.Needs.{needs}
 use Rattle.planning.proofs.sweep_nodes.Statement.{statement}
 use Rattle.planning.proofs.sweep_nodes.Tie as tie
@@ -30,8 +30,8 @@ sub-n c = search needs
 plan-node-requires : tie.Need-plan-node-requires Inv-loop μ-loop
 plan-node-requires c κs = (search sweep-node, (search needs, (search needs, (search needs, search needs))))
 
-with-requires : tie.Need-with-requires Inv-loop μ-loop
-with-requires c κs = search needs
+insert-requires : tie.Need-insert-requires Inv-loop μ-loop
+insert-requires c κs = search sweep-small
 
 loop-less : tie.Need-loop-less Inv-loop μ-loop
 loop-less c = search needs
@@ -64,7 +64,7 @@ sweep-nodes-spec =
     loop-holds
     sub-n
     plan-node-requires
-    with-requires
+    insert-requires
     loop-less
     loop-again
     loop-less-2
