@@ -1,5 +1,5 @@
 -- A choice is judged by its column, where its node chooses.
--- Rests on the column of a successor, of the crate conditions.
+-- Rests on the column of a successor, of the crate ranks.
 use mathlib.Core.Path.{_≡_, ap, sym, _∙_}
 use mathlib.Core.Bool.{Bool, true, false}
 use mathlib.Core.List.{List}
@@ -9,8 +9,8 @@ use Rattle.schema.specs.Table.{AtMost}
 use Rattle.policies.specs.Policies.{Policy}
 use Rattle.instances.specs.Instance.{chooses}
 use Rattle.model.specs.Satisfaction.{columnOf, choiceMeets}
-use Rattle.conditions.specs.Ranks.{allowedColumn}
-use Rattle.conditions.proofs.Ranks.{allowed-column}
+use Rattle.ranks.specs.Ranks.{allowedColumn}
+use Rattle.ranks.proofs.Ranks.{allowed-column}
 use Rattle.checker.specs.Checks.{choosing}
 
 module _ (g : List Node) (ps : List Policy) (n x : ℕ) {c : Bool} (e : c ≡ chooses (nodeAt g n)) where

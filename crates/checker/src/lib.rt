@@ -44,7 +44,7 @@ fn choice_allowed(schema: &[u8], table: &[u16], p: &[u8], rows: &[u16], n: usize
 {
     if instances::chooses(schema, table, n) {
         let k = order::column_of(schema, table, n, x);
-        return conditions::is_allowed(schema, table, p, rows, n, k);
+        return ranks::is_allowed(schema, table, p, rows, n, k);
     }
     true
 }
@@ -66,7 +66,7 @@ fn first_value(
     ensures { λ r. ⌜ r ≡ forbiddenIn (forbiddenValue (noted (schemaOf (now (schema .entry))) (now (p .entry)) (now (rows .entry))) n 0 (nodeAt (schemaOf (now (schema .entry))) n .variables) (valuesFrom (nodeAt (schemaOf (now (schema .entry))) n .variables) (now (bits .entry)) (valuesSlot n)) from) ⌝ }
 {
     let count = nodes::variable_count(schema, table, n);
-    let mut skip = policies::rank_count(schema, table, n);
+    let mut skip = nodes::rank_count(schema, table, n);
     let mut at = from;
     let mut k: usize = 0;
     while k < count {

@@ -1,5 +1,5 @@
 -- Which of two numbers is better at a node, by how the ranks in their columns compare: a law for each way.
--- Rests on the laws of compared ranks, of conditions.
+-- Rests on the laws of compared ranks, of the crate ranks.
 use mathlib.Core.Path.{_≡_, ap₂, sym, _∙_}
 use mathlib.Core.Bool.{true, false}
 use mathlib.Core.List.{List}
@@ -11,10 +11,10 @@ use Rattle.policies.specs.Policies.{Policy}
 use Rattle.policies.specs.Rows.{rulesFor}
 use Rattle.model.specs.Satisfaction.{columnOf}
 use Rattle.model.specs.Order.{better}
-use Rattle.conditions.specs.Ranks.{rankOrder}
-use Rattle.conditions.specs.declared.RankOrder.{RankOrder}
-use Rattle.conditions.specs.declared.RankOrder.the-variants.{Before, After, Alike}
-use Rattle.conditions.proofs.Comparing.{better-before, better-after, better-alike}
+use Rattle.ranks.specs.Ranks.{rankOrder}
+use Rattle.ranks.specs.declared.RankOrder.{RankOrder}
+use Rattle.ranks.specs.declared.RankOrder.the-variants.{Before, After, Alike}
+use Rattle.ranks.proofs.Comparing.{better-before, better-after, better-alike}
 
 module _ (g : List Node) (qs : List Policy) (n x y : ℕ) {c d : ℕ} (a : AtMost 8 (columnOf x (nodeAt g n .successors)) c) (b : AtMost 8 (columnOf y (nodeAt g n .successors)) d)
     {r : RankOrder} (e : r ≡ rankOrder (rulesFor n qs) c d) where

@@ -33,7 +33,7 @@ module _ (g : List Node) (s t first second bits bits₁ : List ℕ) (ps : List P
     both-read k w i =
         let p = an-instance g s first bits e h in
         let q = an-instance g t second bits₁ d k in
-        rw (p .reads, q .reads) (i ∙ ap success (w .is (p .i) (q .i) (p .is) (q .is) (p .chosen) (q .chosen)))
+        rw (p .reads, q .reads) (i ∙ ap success (w .is (p .i) (q .i) (p .back) (q .back) (p .chosen) (q .chosen)))
 
 pub ruleset instances-read = (first-bad, second-bad, both-read)
 

@@ -16,11 +16,12 @@ use Rattle.schema.proofs.Sound.{Sound}
 use Rattle.schema.proofs.Accepted.{sound}
 use Rattle.policies.specs.Policies.{Policy}
 use Rattle.policies.specs.Rows.{noted}
+use Rattle.instances.specs.File.{encode, ReadsBack}
 use Rattle.instances.specs.Instance.{Entry}
 use Rattle.instance_reader.specs.Decoded.{choicesOf}
 use Rattle.instances.proofs.IsInstance.{Reached, root, Ascending, IsInstance}
 use Rattle.instance_reader.proofs.Decoded.{choice-at, choice-none}
-use Rattle.instances.proofs.RoundTrip.{reached-below}
+use Rattle.instances.proofs.RoundTrip.{read-is, encode-bytes, reached-below}
 use Rattle.model.specs.Order.{choiceOf, choiceAt, better, goodAt, goodStep, good, asGood}
 use Rattle.order.specs.Order.{inSet}
 use Rattle.model.proofs.Entries.{Found, found, missing, lookup}
@@ -121,5 +122,8 @@ module _ (schema p rows first second : List ℕ) where
     unfolding asGood
     flagging-exit h =
         record {
-          is = λ i j a b c d. w .right i j (record { first-is = a; second-is = b; first-chosen = c; second-chosen = d }) 0 h root;
+          is = λ i j a b c d. w .right i j (record { first-is = instance-is i a; second-is = instance-is j b; first-chosen = c; second-chosen = d }) 0 h root;
         }
+      where
+        instance-is : (i : List Entry) → ReadsBack g i → IsInstance g i
+        instance-is i a = read-is g (w .sound) (encode g i) (encode-bytes g i) (a .back)

@@ -12,7 +12,6 @@ ghost use Rattle.order.specs.Order.{inSet};
 ghost use Rattle.calls.specs.Inputs.{withInForce};
 ghost use Rattle.calls.specs.Calls.{comparingInForce, comparing};
 ghost use Rattle.comparison.specs.Comparison.{YieldsAsGood, YieldsVerdict};
-use conditions::RankOrder;
 use fields::Answer;
 use fields::Step;
 use inputs::Inputs;
@@ -21,6 +20,7 @@ use nodes::FEW_NODES;
 use nodes::FEW_TABLE_SLOTS;
 use nodes::TABLE_SLOTS;
 use policies::ROW_SLOTS;
+use ranks::RankOrder;
 use schema::MOST_NODES;
 use schema::MOST_VARIABLES;
 
@@ -40,7 +40,7 @@ fn is_better(
 {
     let c = order::column_of(schema, table, n, x);
     let d = order::column_of(schema, table, n, y);
-    match conditions::compare_ranks(schema, table, p, rows, n, c, d) {
+    match ranks::compare_ranks(schema, table, p, rows, n, c, d) {
         RankOrder::Before => true,
         RankOrder::After => false,
         RankOrder::Alike => x < y,

@@ -1,5 +1,5 @@
 -- Which values the conditions at the offsets admit: one condition's test, and the loop over the offsets.
--- Rests on the definition of what is asked, and on the offsets that are left, in Offsets.
+-- Rests on the definition of what is asked, and on the offsets that are left, in policies.
 use mathlib.Core.Path.{_≡_, refl, ap, ap₂, sym, _∙_}
 use mathlib.Core.Bool.{Bool, true, false, _&&_}
 use mathlib.Core.List.{List}
@@ -15,11 +15,12 @@ use Rattle.fields.specs.Reading.{be, signed}
 use Rattle.fields.proofs.Tests.{and-yes, and-no, and-no-2}
 use Rattle.numbers.specs.Bits.{bit}
 use Rattle.numbers.proofs.Bits.{bit-below}
-use Rattle.policies.proofs.Places.{rest}
+use Rattle.policies.proofs.Part.{rest}
+use Rattle.policies.specs.Rows.{BytesAt}
+use Rattle.policies.proofs.Offsets.{some-left, none-left, stretch}
 use Rattle.model.specs.Satisfaction.{every}
-use Rattle.conditions.specs.Rules.{BytesAt, inRange, inMask, inRanges, inMasks}
-use Rattle.conditions.proofs.Narrowing.{stretch, kept}
-use Rattle.conditions.proofs.Offsets.{some-left, none-left}
+use Rattle.conditions.specs.Rules.{inRange, inMask, inRanges, inMasks}
+use Rattle.conditions.proofs.Narrowing.{kept}
 
 -- ---- one condition
 

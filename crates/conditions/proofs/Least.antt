@@ -31,14 +31,14 @@ use Rattle.schema.specs.Layout.{rankCount, span, spans, offsetOf}
 use Rattle.schema.proofs.Sound.{SoundVariable, SoundVariables}
 use Rattle.schema.proofs.Access.{here}
 use Rattle.policies.specs.Policies.{Condition, range, mask, Policy}
-use Rattle.policies.specs.Rows.{rulesAt, RulesAt}
+use Rattle.policies.specs.Rows.{rulesAt, RulesAt, BytesAt}
 use Rattle.policies.proofs.Nodes.{spans-next}
 use Rattle.instances.specs.File.{valueOf}
 use Rattle.instances.specs.Plan.{valuesFrom, BitsRoom}
 use Rattle.model.specs.Reconciling.{own, restrictAll, combinedFrom, combined, isSome, least, leastEach, withFirst}
 use Rattle.model.proofs.Values.{combined-at}
 use Rattle.conditions.specs.Least.{LeastIn}
-use Rattle.conditions.specs.Rules.{BytesAt, rangeAt, maskAt, narrowedBy}
+use Rattle.conditions.specs.Rules.{rangeAt, maskAt, narrowedBy}
 use Rattle.conditions.proofs.Rules.{ConditionIn, ranges-bytes, ranges-left, masks-bytes, masks-left}
 use Rattle.conditions.proofs.Narrowing.{kept}
 

@@ -3,12 +3,5 @@ pub mod Narrowing
 pub mod Least
 pub mod Numbers
 pub mod FourLeast
-pub mod Allowing
-pub mod Banning
-pub mod Gathering
-pub mod Shorts
 pub mod Row
-pub mod Ranks
-pub mod Offsets
 pub mod Admitting
-pub mod Comparing

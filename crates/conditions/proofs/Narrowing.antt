@@ -1,10 +1,9 @@
 -- The loop over the offsets, for one variable: the conditions from row r on are left.
--- Rests on the definition of what they leave, and on the offsets that are left, in Offsets.
+-- Rests on the definition of what they leave, and on the offsets that are left, in policies.
 use mathlib.Core.Path.{_≡_, refl, ap, ap₂, sym, _∙_}
 use mathlib.Core.List.{List}
-use Prim.Native.Nat.{ℕ, _+_, _-_, _≤_, _<_, _^_}
-use native.Mathlib.Omega.{arith}
-use lib.ListN.{length, getD, take, drop, length-drop}
+use Prim.Native.Nat.{ℕ, _+_, _≤_, _<_, _^_}
+use lib.ListN.{length, getD, take, drop}
 use lib.Bits.{bitAnd}
 use lib.IntN.{ℤ}
 use lib.Signed.{mag}
@@ -15,26 +14,15 @@ use Rattle.fields.specs.Reading.{be, signed}
 use Rattle.numbers.specs.Bits.{ones}
 use Rattle.numbers.specs.Signs.{maxZ, minZ}
 use Rattle.policies.specs.Policies.{Condition, range, mask}
-use Rattle.policies.proofs.Places.{rest}
+use Rattle.policies.specs.Rows.{BytesAt}
+use Rattle.policies.proofs.Part.{rest}
+use Rattle.policies.proofs.Offsets.{some-left, none-left, stretch}
 use Rattle.model.specs.Reconciling.{both}
-use Rattle.conditions.specs.Rules.{BytesAt, rangeAt, maskAt, narrowedBy}
-use Rattle.conditions.proofs.Offsets.{some-left, none-left}
-
--- the stretch from offset o on, as a callee is lent it
-abbrev pub stretch : List ℕ → ℕ → List ℕ
-stretch p o = take (length p - o) (drop o p)
+use Rattle.conditions.specs.Rules.{rangeAt, maskAt, narrowedBy}
 
 -- a bound is what its bits say
 pub kept : (z : ℤ) → mag z < 2 ^ 31 → toZ w32 (ofZ w32 z) ≡ z
 kept z f = toZ-ofZ w32 z (record { sfits = f })
-
--- the stretch of row r begins inside the file, and has the condition
-module _ (p : List ℕ) (count : ℕ) (offsets : List ℕ) (skip r k : ℕ) (b : BytesAt p count offsets (skip + k)) (h : r < count) where
-  pub stretch-inside : getD offsets r 0 ≤ length p
-  stretch-inside = omega (arith, b .each r h)
-
-  pub stretch-room : skip + k ≤ length (stretch p (getD offsets r 0))
-  stretch-room = rw (rest p (getD offsets r 0)) (omega (arith, b .each r h, length-drop (getD offsets r 0) p))
 
 -- a range as the code narrows it
 pub narrowed : (p : List ℕ) (at : ℕ) (a b : ℤ) {x y u v : ℤ} → x ≡ signed (be 4 p at) → mag x < 2 ^ 31 → y ≡ signed (be 4 p (at + 4)) → mag y < 2 ^ 31 → mag a < 2 ^ 31 → mag b < 2 ^ 31

@@ -24,15 +24,16 @@ use Rattle.schema.specs.Layout.{rankCount, span, spans, offsetOf, masksOf, Laid
 use Rattle.schema.proofs.Access.{laid}
 use Rattle.nodes.specs.declared.Bounds.{Bounds}
 use Rattle.policies.specs.Policies.{Condition, range, mask, Policy}
+use Rattle.policies.specs.Rows.{rulesAt, RulesAt, BytesAt}
+use Rattle.policies.proofs.Offsets.{stretch, stretch-inside, stretch-room}
 use Rattle.model.specs.Satisfaction.{every}
 use Rattle.model.specs.Reconciling.{own, both, restrictAll, combined}
 use Rattle.model.proofs.Values.{combined-at}
 use Rattle.conditions.specs.Least.{rangesIn}
-use Rattle.policies.specs.Rows.{rulesAt, RulesAt}
-use Rattle.conditions.specs.Rules.{BytesAt, rangeAt, narrowedBy, fourNumbers}
+use Rattle.conditions.specs.Rules.{rangeAt, narrowedBy, fourNumbers}
 use Rattle.conditions.proofs.Rules.{ConditionIn, ranges-bytes, ranges-left}
 use Rattle.conditions.proofs.Least.{combined-length}
-use Rattle.conditions.proofs.Narrowing.{Narrowing, stretch, stretch-inside, stretch-room, range-step, narrowing-exit, kept}
+use Rattle.conditions.proofs.Narrowing.{Narrowing, range-step, narrowing-exit, kept}
 
 -- ---- the test
 
@@ -160,10 +161,10 @@ module _ (g : List Node) (p : List ℕ) (n count : ℕ) (offsets : List ℕ) (sk
     last = ranges-bytes g p n count offsets (u .rules) 3 (skip + 24) (place 3 (omega arith))
 
     pub four-inside : getD offsets r 0 ≤ length p
-    four-inside = stretch-inside p count offsets (skip + 24) r 8 last h
+    four-inside = stretch-inside p count offsets r (skip + 24 + 8) last h
 
     room : skip + 24 + 8 ≤ length here-on
-    room = stretch-room p count offsets (skip + 24) r 8 last h
+    room = stretch-room p count offsets r (skip + 24 + 8) last h
 
     pub first-room : skip + 8 ≤ length here-on
     first-room = omega (arith, room)

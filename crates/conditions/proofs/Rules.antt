@@ -1,64 +1,29 @@
--- The PN that are read at some offsets: what their ranks and conditions are there.
--- Rests on what an accepted reading of a PN gives, on its own stretch of the file.
+-- The conditions of the PN that are read at some offsets.
+-- Rests on what an accepted reading of a PN gives, on its own stretch of the file, in policies.
 use mathlib.Core.Path.{_≡_, refl, ap, ap₂, sym, subst, _∙_}
 use mathlib.Core.Bool.{Bool, true, false, _&&_}
-use mathlib.Core.List.{List, [], _∷_, map}
+use mathlib.Core.List.{List, [], _∷_}
 use mathlib.Core.Option.{Option, some}
 use Prim.Native.Nat.{ℕ, zero, suc, _+_, _≤_, _<_}
 use native.Mathlib.Omega.{arith}
-use native.Mathlib.Nat.{add-zero, zero-add}
-use borrow.Author.Tests.{eq-eqb}
-use lib.ListN.{length, getD, getElem?, take, drop, length-drop, List·getD-eq-default}
-use lib.Seq.{getD-drop, getD-take, length-take-le}
+use native.Mathlib.Nat.{add-zero}
+use lib.ListN.{length, getD, getElem?, take, drop}
+use lib.Seq.{getD-take, length-take-le}
 use lib.IntN.{ℤ, pos}
 use Rattle.fields.specs.Reading.{be, signed}
 use Rattle.fields.proofs.Tests.{never}
 use Rattle.schema.specs.Schema.{Node, nodeAt, noVariable, isNumber}
 use Rattle.schema.specs.declared.Variable.{Variable}
 use Rattle.schema.specs.declared.Variable.the-variants.{Number, Listed}
-use Rattle.schema.specs.Layout.{rankCount, span, spans, offsetOf}
-use Rattle.policies.specs.Policies.{Condition, range, mask, Rule, conditionsOf, hasRule, ruleFor, ofRules}
-use Rattle.policies.specs.Index.{conditionWidth}
-use Rattle.policies.specs.Rows.{ruleAt, rulesAt, rulesFor, RuleAt, RulesAt}
-use Rattle.policies.proofs.Stands.{ConditionAt, width-span, ConditionsAt, none, more, Ruled, rule-of-back}
+use Rattle.schema.specs.Layout.{span, spans, offsetOf}
+use Rattle.policies.specs.Policies.{Condition, range, mask, Rule, conditionsOf, ofRules}
+use Rattle.policies.specs.Widths.{conditionWidth}
+use Rattle.policies.specs.Rows.{ruleAt, rulesAt, RuleAt, RulesAt, BytesAt}
+use Rattle.policies.proofs.Stands.{ConditionAt, width-span, ConditionsAt, none, more}
+use Rattle.policies.proofs.Rules.{rule-read, rule-room, own-rule, rules-bytes}
 use Rattle.model.specs.Satisfaction.{conditionAt, admits, meets, every, admitted}
 use Rattle.model.specs.Reconciling.{both, restrict, restrictAll}
-use Rattle.conditions.specs.Rules.{BytesAt, rangeAt, maskAt, narrowedBy, inRange, inMask, inRanges, inMasks}
-
--- ---- what is read at one offset
-
-module _ (g : List Node) (p : List ℕ) (n o : ℕ) (w : RuleAt g p n o) where
-  read : Ruled (drop o p) (nodeAt g n) n 0 (ruleAt g p n o) (w .end)
-  read = rule-of-back (drop o p) (nodeAt g n) n 0 (w .reads)
-
-  room : (k : ℕ) → k ≤ length (drop o p) → o + k ≤ length p
-  room k h = omega (arith, length-drop o p, w .inside)
-
-  -- it is the one PN of the node
-  has-rule : hasRule n (ruleAt g p n o ∷ []) ≡ true
-  unfolding hasRule
-  has-rule = rw (eq-eqb (ruleAt g p n o .node) n (read .node))
-
-  own-rule : ruleFor n (ruleAt g p n o ∷ []) ≡ ruleAt g p n o
-  unfolding ruleFor
-  own-rule = rw (eq-eqb (ruleAt g p n o .node) n (read .node))
-
-  -- the ranks are the bytes from there on
-  ranks-inside : o + rankCount (nodeAt g n) ≤ length p
-  ranks-inside = go (length (ruleAt g p n o .ranks)) (read .count) (read .ranks .inside)
-    where
-      go : (k : ℕ) → k ≡ rankCount (nodeAt g n) → (0 < k → 0 + k ≤ length (drop o p)) → o + rankCount (nodeAt g n) ≤ length p
-      go zero e f = room (rankCount (nodeAt g n)) (omega arith)
-      go (suc k) e f = let z = f (omega arith) in room (rankCount (nodeAt g n)) (omega arith)
-
-  pub rank-read : (k : ℕ) → k < rankCount (nodeAt g n) → getD p (o + k) 0 ≡ getD (ruleAt g p n o .ranks) k 0
-  rank-read k h =
-      sym (read .ranks .each k (omega (arith, read .count))
-      ∙ ap (λ (i : ℕ). getD (drop o p) i 0) (zero-add k)
-      ∙ getD-drop o p k 0)
-
-  pub rank-none : (k : ℕ) → rankCount (nodeAt g n) ≤ k → getD (ruleAt g p n o .ranks) k 0 ≡ 0
-  rank-none k h = List·getD-eq-default (ruleAt g p n o .ranks) 0 {n = k} (omega (arith, read .count))
+use Rattle.conditions.specs.Rules.{rangeAt, maskAt, narrowedBy, inRange, inMask, inRanges, inMasks}
 
 -- ---- the condition of one variable
 
@@ -91,7 +56,7 @@ module _ (g : List Node) (p : List ℕ) (n o k skip : ℕ) (w : RuleAt g p n o) 
   stands : {number : Bool} → ConditionIn g n k skip number → Kth (drop o p) skip (getD (nodeAt g n .variables) k noVariable) set
   unfolding conditionAt conditionsOf offsetOf
   stands c =
-      let r = read g p n o w in
+      let r = rule-read g p n o w in
       subst (λ (x : Rule). Kth (drop o p) skip (getD (nodeAt g n .variables) k noVariable) (getElem? (x .conditions) k)) (sym (own-rule g p n o w))
       (subst (λ (i : ℕ). Kth (drop o p) i (getD (nodeAt g n .variables) k noVariable) (getElem? (ruleAt g p n o .conditions) k))
       (let z : 0 + length (ruleAt g p n o .ranks) + spans k (nodeAt g n .variables) ≡ skip = omega (arith, c .place, r .count) in z)
@@ -104,7 +69,7 @@ module _ (g : List Node) (p : List ℕ) (n o k skip : ℕ) (w : RuleAt g p n o) 
     where
       go : (v : Variable) → isNumber v ≡ true → (d : Condition) → set ≡ some d → ConditionAt (drop o p) skip v d
           → (set ≡ some (range (signed (be 4 (drop o p) skip)) (signed (be 4 (drop o p) (skip + 4))))) × (o + (skip + 8) ≤ length p)
-      go (Number lo hi) t d i r = (i ∙ ap (λ (x : Condition). some x) (r .is), room g p n o w (skip + 8) (r .inside))
+      go (Number lo hi) t d i r = (i ∙ ap (λ (x : Condition). some x) (r .is), rule-room g p n o w (skip + 8) (r .inside))
       go (Listed size) t d i r = never t
 
   -- a listed variable's mask
@@ -115,7 +80,7 @@ module _ (g : List Node) (p : List ℕ) (n o k skip : ℕ) (w : RuleAt g p n o) 
       go : (v : Variable) → isNumber v ≡ false → (d : Condition) → set ≡ some d → ConditionAt (drop o p) skip v d
           → (set ≡ some (mask (be 4 (drop o p) skip))) × (o + (skip + 4) ≤ length p)
       go (Number lo hi) t d i r = never (sym t)
-      go (Listed size) t d i r = (i ∙ ap (λ (x : Condition). some x) (r .is), room g p n o w (skip + 4) (r .inside))
+      go (Listed size) t d i r = (i ∙ ap (λ (x : Condition). some x) (r .is), rule-room g p n o w (skip + 4) (r .inside))
 
 -- ---- all offsets
 
@@ -136,28 +101,7 @@ rules-admit g p n k v x f [] e = refl
 rules-admit g p n k v x f (o ∷ os) e =
     ap₂ (λ (a b : Bool). a && b) (ap (λ (d : Option Condition). meets v d x) (sym (e 0 (omega arith)))) (rules-admit g p n k v x f os (λ r h. e (suc r) (omega arith)))
 
--- those of the node are the PN that are read there
-rules-read : (g : List Node) (p : List ℕ) (n : ℕ) (os : List ℕ) → ((r : ℕ) → r < length os → RuleAt g p n (getD os r 0)) → rulesFor n (rulesAt g p n os) ≡ map (ruleAt g p n) os
-unfolding rulesFor rulesAt
-rules-read g p n [] f = refl
-rules-read g p n (o ∷ os) f =
-    let w = f 0 (omega arith) in
-    rw (has-rule g p n o w, own-rule g p n o w) (ap (λ (l : List Rule). ruleAt g p n o ∷ l) (rules-read g p n os (λ r h. f (suc r) (omega arith))))
-
 module _ (g : List Node) (p : List ℕ) (n count : ℕ) (offsets : List ℕ) (w : RulesAt g p n count offsets) where
-  bytes : (width : ℕ) → ((r : ℕ) → r < count → getD offsets r 0 + width ≤ length p) → BytesAt p count offsets width
-  bytes width f = record { few = w .few; long = w .long; each = f }
-
-  pub rows-read : rulesFor n (rulesAt g p n (take count offsets)) ≡ map (ruleAt g p n) (take count offsets)
-  rows-read =
-      rules-read g p n (take count offsets) (λ r h.
-      let l : r < count = omega (arith, length-take-le count offsets (w .long)) in
-      rw (getD-take count offsets r 0 l) (w .each r l))
-
-  -- the ranks
-  pub ranks-bytes : {columns : ℕ} → columns ≤ rankCount (nodeAt g n) → BytesAt p count offsets columns
-  ranks-bytes {columns} e = bytes columns (λ r h. let z = ranks-inside g p n (getD offsets r 0) (w .each r h) in omega arith)
-
   module _ (k skip : ℕ) where
     left : (f : ℕ → Condition) → ((r : ℕ) → r < count → conditionAt (ofRules (ruleAt g p n (getD offsets r 0) ∷ [])) n k ≡ some (f (getD offsets r 0)))
         → (c : Condition) → narrowedBy f (take count offsets) c ≡ restrictAll (rulesAt g p n (take count offsets)) n k c
@@ -175,14 +119,14 @@ module _ (g : List Node) (p : List ℕ) (n count : ℕ) (offsets : List ℕ) (w 
 
     -- the conditions of a number
     pub ranges-bytes : ConditionIn g n k skip true → BytesAt p count offsets (skip + 8)
-    ranges-bytes c = bytes (skip + 8) (λ r h. range-read g p n (getD offsets r 0) k skip (w .each r h) c .1)
+    ranges-bytes c = rules-bytes g p n count offsets w (skip + 8) (λ r h. range-read g p n (getD offsets r 0) k skip (w .each r h) c .1)
 
     pub ranges-left : ConditionIn g n k skip true → (c : Condition) → narrowedBy (rangeAt p skip) (take count offsets) c ≡ restrictAll (rulesAt g p n (take count offsets)) n k c
     ranges-left i = left (rangeAt p skip) (λ r h. range-read g p n (getD offsets r 0) k skip (w .each r h) i .0)
 
     -- those of a listed variable
     pub masks-bytes : ConditionIn g n k skip false → BytesAt p count offsets (skip + 4)
-    masks-bytes c = bytes (skip + 4) (λ r h. mask-read g p n (getD offsets r 0) k skip (w .each r h) c .1)
+    masks-bytes c = rules-bytes g p n count offsets w (skip + 4) (λ r h. mask-read g p n (getD offsets r 0) k skip (w .each r h) c .1)
 
     pub masks-left : ConditionIn g n k skip false → (c : Condition) → narrowedBy (maskAt p skip) (take count offsets) c ≡ restrictAll (rulesAt g p n (take count offsets)) n k c
     masks-left i = left (maskAt p skip) (λ r h. mask-read g p n (getD offsets r 0) k skip (w .each r h) i .0)

@@ -1,9 +1,9 @@
 -- The conditions that stand in the PN of a node, each on its own stretch of the policies' file.
 -- For the contracts of functions that no other crate calls.
-use Prim.Native.Nat.{ℕ, _+_, _<_, _≤_}
+use Prim.Native.Nat.{ℕ, _+_}
 use mathlib.Core.Bool.{Bool, _&&_}
 use mathlib.Core.List.{List, [], _∷_}
-use lib.ListN.{length, getD, drop}
+use lib.ListN.{length, drop}
 use lib.Dec.{eqb}
 use lib.IntN.{ℤ}
 use lib.Signed.{leZ}
@@ -11,15 +11,9 @@ use Rattle.fields.specs.Reading.{be, signed}
 use Rattle.numbers.specs.Bits.{bit}
 use Rattle.schema.specs.Schema.{isNumber}
 use Rattle.schema.specs.declared.Variable.{Variable}
-use Rattle.policies.specs.Policies.{Condition, range, mask, mostPolicies}
+use Rattle.policies.specs.Policies.{Condition, range, mask}
 use Rattle.model.specs.Satisfaction.{every}
 use Rattle.model.specs.Reconciling.{both}
-
--- so many bytes of the file p stand from each of the first so many offsets on
-pub record BytesAt (p : List ℕ) (count : ℕ) (offsets : List ℕ) (width : ℕ) : Type 0 where
-  pub few : count ≤ mostPolicies
-  pub long : count ≤ length offsets
-  pub each : (r : ℕ) → r < count → getD offsets r 0 + width ≤ length p
 
 -- the condition that stands so far from the first rank, of the PN whose ranks begin at o: of a number or of a listed variable
 unfoldable pub rangeAt : List ℕ → ℕ → ℕ → Condition

@@ -24,11 +24,12 @@ pub enum Step {
     Bad { number: u8, offset: usize },
 }
 
-// 01's answer; value is what a call adds, its length or its verdict.
+// 01's answer; value is what a call adds, its length or its verdict. Number and file stand apart: side by side the compiler
+// copies them as one word, of which only two bytes were written, and that stalls.
 pub struct Answer {
     pub number: u8,
-    pub file: u8,
     pub offset: usize,
+    pub file: u8,
     pub value: usize,
 }
 

@@ -11,7 +11,8 @@ use Rattle.fields.specs.Outcomes.{Outcome, Did, leaving}
 use Rattle.fields.specs.declared.Answer.{Answer}
 use Rattle.fields.proofs.Judged.{did-same, refused-did}
 use Rattle.schema.specs.Schema.{Node, schemaOf}
-use Rattle.schema.specs.Table.{AtMost}
+use Rattle.schema.specs.Table.{Accepted, AtMost}
+use Rattle.schema.proofs.Accepted.{file-of}
 use Rattle.policies.specs.Policies.{Policy, policies, policiesOf}
 use Rattle.policies.specs.Pass.{pass, inForce, forced}
 use Rattle.policies.specs.Rows.{rowSlot, RowsRoom, noted, Noted, rulesFor}
@@ -29,20 +30,21 @@ use Rattle.inputs.specs.declared.Inputs.the-variants.{Read, Refused}
 
 -- ---- room for the rows
 
-module _ (s : List ℕ) {count : ℕ} (m : AtMost 64 (length (schemaOf s)) count) where
-  rows-room : (k : ℕ) → rowSlot count ≤ k → RowsRoom s (replicate k 0)
-  rows-room k h =
-      let l = length-replicate {A = ℕ} k 0 in
-      record { blank = ap (λ (i : ℕ). replicate i 0) (sym l); long = omega (arith, l, m .is) }
+rows-room : (s : List ℕ) (k : ℕ) → rowSlot (length (schemaOf s)) ≤ k → RowsRoom s (replicate k 0)
+rows-room s k h =
+    let l = length-replicate {A = ℕ} k 0 in
+    record { blank = ap (λ (i : ℕ). replicate i 0) (sym l); long = omega (arith, l) }
 
+pub rows-64 : (s : List ℕ) → Accepted s → RowsRoom s (replicate 1088 0)
+rows-64 s a = rows-room s 1088 (omega (arith, file-of s (a .some) .few))
+
+-- of a schema of so many nodes
+module _ (s : List ℕ) {count : ℕ} (m : AtMost 64 (length (schemaOf s)) count) where
   pub rows-4 : count ≤ 4 → RowsRoom s (replicate 68 0)
-  rows-4 h = rows-room 68 (omega arith)
+  rows-4 h = rows-room s 68 (omega (arith, m .is))
 
   pub rows-16 : count ≤ 16 → RowsRoom s (replicate 272 0)
-  rows-16 h = rows-room 272 (omega arith)
-
-  pub rows-64 : RowsRoom s (replicate 1088 0)
-  rows-64 = rows-room 1088 (omega (arith, m .most))
+  rows-16 h = rows-room s 272 (omega (arith, m .is))
 
 -- ---- policies and pass
 

@@ -10,10 +10,9 @@ use Rattle.fields.specs.declared.Step.{Step}
 use Rattle.fields.specs.declared.Step.the-variants.{Next, Bad}
 use Rattle.fields.proofs.Reading.{stepped, stopped}
 use Rattle.schema.specs.Schema.{mostNodes, schemaOf}
-use Rattle.schema.specs.Table.{Tabled, AtMost}
+use Rattle.schema.specs.Table.{Tabled, AtMost, SchemaIn}
 use Rattle.policies.specs.Policies.{policies}
 use Rattle.policies.specs.Pass.{pass}
-use Rattle.policies.specs.Index.{SchemaIn}
 use Rattle.policy_reader.specs.Answers.{YieldsPolicies}
 use Rattle.calls.specs.Inputs.{withPolicies, withPass, withInForce}
 use Rattle.inputs.specs.Inputs.{YieldsInForce}

@@ -32,12 +32,12 @@ use Rattle.schema.specs.declared.Variable.the-variants.{Number, Listed}
 use Rattle.schema.proofs.Sound.{SoundVariable, SoundVariables, Sound}
 use Rattle.schema.proofs.Accepted.{sound}
 use Rattle.instances.specs.Instance.{Entry, rightChoice, inDomain, has}
-use Rattle.instances.specs.File.{IH, reached, due, valueOf, entries, instance}
+use Rattle.instances.specs.File.{IH, reached, due, valueOf, entries, instance, ReadsBack}
 use Rattle.instances.specs.Plan.{plannedFrom, planned, nodesOf, valuesFrom, planOf, BitsRoom}
 use Rattle.instances.proofs.IsInstance.{inDomains, RightEntry, Ascending, IsInstance}
 use Rattle.instances.proofs.Valid.{Follows, none-left, and-then, none-at, has-mem, Reaches, due-reached, reached-due, lowest-due, lowest-least, due-cases, reaches-in, few-variables, sound-variables, is-follows}
 use Rattle.instances.proofs.Trip.{between}
-use Rattle.instances.proofs.RoundTrip.{read-is, node-below}
+use Rattle.instances.proofs.RoundTrip.{read-encode, read-end, read-is, node-below}
 use Rattle.instance_reader.specs.Decoded.{bitsOf, fillChoices, choicesOf, instanceRead, YieldsInstance}
 use Rattle.instance_reader.specs.Reader.{fillValues, fillBits, Tables, fillEntry, fillEntries, entriesOutcome, emptied}
 use Rattle.instance_reader.specs.declared.EntriesRead.{EntriesRead}
@@ -296,13 +296,16 @@ module _ (f s : List ℕ) (a : Accepted f) (fb : Bytes f) (sb : Bytes s) (bits :
   yields =
       record {
         answer = rw e (ap Instance nodes-are);
-        is = λ j p h. subst (IsInstance g) (same j p h) is;
+        back = λ j p h. subst (ReadsBack g) (same j p h) written;
         holds = λ j p h. plan-is ∙ same j p h;
         chosen = λ j p h. choices-are ∙ ap choicesOf (same j p h);
       }
     where
       same : (j : List Entry) (p : ℕ) → instance g s ≡ got j p → i ≡ j
       same j p h = cc
+
+      written : ReadsBack g i
+      written = let z = read-encode g s sb e in record { back = ap (instance g) z ∙ e ∙ ap (got i) (read-end g s sb e ∙ ap length (sym z)) }
 
 -- ---- the reader's returns
 
@@ -313,7 +316,7 @@ pub yields-none : (g : List Node) (s choices bits : List ℕ) {n o : ℕ} → in
 yields-none g s choices bits e =
     record {
       answer = rw e;
-      is = λ i q h. absurd (let z : _≡_ {A = ℕ} 0 1 = cc in omega arith);
+      back = λ i q h. absurd (let z : _≡_ {A = ℕ} 0 1 = cc in omega arith);
       holds = λ i q h. absurd (let z : _≡_ {A = ℕ} 0 1 = cc in omega arith);
       chosen = λ i q h. absurd (let z : _≡_ {A = ℕ} 0 1 = cc in omega arith);
     }
@@ -384,7 +387,7 @@ pub record AnInstance (g : List Node) (s choices bits : List ℕ) (m : ℕ) : Ty
   pub i : List Entry
   pub end : ℕ
   pub reads : instance g s ≡ got i end
-  pub is : IsInstance g i
+  pub back : ReadsBack g i
   pub nodes : m ≡ nodesOf i
   pub holds : planned g (planOf g choices bits) ≡ i
   pub chosen : choices ≡ choicesOf i
@@ -403,5 +406,5 @@ module _ (g : List Node) (s choices bits : List ℕ) {x : InstanceRead} (w : Yie
       go : (r : Got (List Entry)) → instance g s ≡ r → AnInstance g s choices bits m
       go (got i q) e =
           let y : Instance m ≡ Instance (nodesOf i) = sym h ∙ w .answer ∙ ap instanceRead e in
-          record { i = i; end = q; reads = e; is = w .is i q e; nodes = cc; holds = w .holds i q e; chosen = w .chosen i q e }
+          record { i = i; end = q; reads = e; back = w .back i q e; nodes = cc; holds = w .holds i q e; chosen = w .chosen i q e }
       go (bad n o) e = absurd (let y : Instance m ≡ NoInstance n o = sym h ∙ w .answer ∙ ap instanceRead e in let z : _≡_ {A = ℕ} 0 1 = cc in omega arith)

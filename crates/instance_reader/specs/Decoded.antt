@@ -11,9 +11,8 @@ use Rattle.schema.specs.Schema.{Node, mostNodes}
 use Rattle.schema.specs.declared.Variable.{Variable}
 use Rattle.schema.specs.declared.Variable.the-variants.{Number, Listed}
 use Rattle.instances.specs.Instance.{Entry}
-use Rattle.instances.specs.File.{instance}
+use Rattle.instances.specs.File.{instance, ReadsBack}
 use Rattle.instances.specs.Plan.{planned, nodesOf, planOf}
-use Rattle.instances.proofs.IsInstance.{IsInstance}
 use Rattle.instance_reader.specs.declared.InstanceRead.{InstanceRead}
 use Rattle.instance_reader.specs.declared.InstanceRead.the-variants.{Instance, NoInstance}
 
@@ -39,6 +38,6 @@ instanceRead (bad n o) = NoInstance n o
 -- the reader's answer for the file s, and what the arrays then hold; after a refusal they hold anything
 pub record YieldsInstance (g : List Node) (s choices bits : List ℕ) (r : InstanceRead) : Type 0 where
   pub answer : r ≡ instanceRead (instance g s)
-  pub is : (i : List Entry) (q : ℕ) → instance g s ≡ got i q → IsInstance g i
+  pub back : (i : List Entry) (q : ℕ) → instance g s ≡ got i q → ReadsBack g i
   pub holds : (i : List Entry) (q : ℕ) → instance g s ≡ got i q → planned g (planOf g choices bits) ≡ i
   pub chosen : (i : List Entry) (q : ℕ) → instance g s ≡ got i q → choices ≡ choicesOf i

@@ -1,17 +1,17 @@
 -- Going over a node's successors and variables, and what a node that chooses reaches.
 -- Rests on what the schema's accessors answer.
-use mathlib.Core.Path.{_≡_, ap, sym, _∙_}
-use mathlib.Core.Bool.{Bool, true, false}
+use mathlib.Core.Path.{_≡_, refl, ap, sym, _∙_}
+use mathlib.Core.Bool.{Bool, true, false, cond, _&&_}
 use mathlib.Core.List.{List, [], _∷_}
 use Prim.Native.Nat.{ℕ, suc, _+_, _≤_, _<_}
 use native.Mathlib.Omega.{arith}
 use native.Mathlib.Numerals.{add-one}
-use borrow.Author.Tests.{eq-eqb, ne-eqb}
-use lib.Dec.{ltb}
+use lib.Dec.{eqb, ltb}
 use lib.ListN.{length, getD, drop, drop-of-length-le}
 use lib.Seq.{drop-cons}
 use Rattle.numbers.specs.Bits.{with, withAll}
 use Rattle.schema.specs.Schema.{Node, nodeAt, noVariable}
+use Rattle.schema.specs.Layout.{rankCount}
 use Rattle.schema.specs.Table.{AtMost, SuccessorIs}
 use Rattle.schema.specs.declared.Variable.{Variable}
 use Rattle.instances.specs.Instance.{chooses, reaches}
@@ -40,13 +40,13 @@ module _ (g : List Node) (n j : ℕ) {c : ℕ} where
 -- ---- its kind
 
 module _ (x : Node) where
-  pub chooses-by : {k l : ℕ} → AtMost 1 (x .kind) k → k ≡ 1 → AtMost 8 (length (x .successors)) l → ltb 0 l ≡ chooses x
-  unfolding chooses
-  chooses-by a b d = rw (eq-eqb (x .kind) 1 (sym (a .is) ∙ b), ← (d .is))
-
-  pub chooses-not : {k : ℕ} → AtMost 1 (x .kind) k → (k ≡ 1 → ⊥) → false ≡ chooses x
-  unfolding chooses
-  chooses-not a b = rw (ne-eqb (x .kind) 1 (λ z. b (a .is ∙ z)))
+  pub chooses-ranked : {r : ℕ} → AtMost 8 (rankCount x) r → ltb 0 r ≡ chooses x
+  unfolding chooses rankCount
+  chooses-ranked w = ap (ltb 0) (w .is) ∙ go (eqb (x .kind) 1)
+    where
+      go : (b : Bool) → ltb 0 (cond b (length (x .successors)) 0) ≡ (b && ltb 0 (length (x .successors)))
+      go true = refl
+      go false = refl
 
   module _ {b : Bool} (c : ℕ) where
     pub reach-one : (m : ℕ) {r : ℕ} → b ≡ chooses x → b ≡ true → r ≡ with m c → r ≡ withAll m (reaches x c)

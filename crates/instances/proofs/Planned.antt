@@ -163,23 +163,3 @@ module _ (g : List Node) (sound : Sound g) (plan : ℕ → Entry) (Good : ℕ �
 
   pub planned-mine : (e : Entry) → List·Memᴰ e (planned g plan) → (e ≡ plan (e .node)) × Good (e .node)
   planned-mine e m = (planned-mem e m, planned-good (planned-is .only e m))
-
-  -- a plan that is the same where it is good makes the same
-  module _ (other : ℕ → Entry) (same : (n : ℕ) → Good n → plan n ≡ other n) where
-    from-same : (k n : ℕ) (es : List Entry) → ((j : ℕ) → reached g es j ≡ true → Good j) → plannedFrom g plan k n es ≡ plannedFrom g other k n es
-    unfolding plannedFrom reached
-    from-same zero n es f = refl
-    from-same (suc k) n es f = go (reached g es n) refl (λ h. from-same k (n + 1) (plan n ∷ es) (λ j t. more h j (or-true (elem j (reaches (nodeAt g (plan n .node)) (plan n .choice))) (reached g es j) t))) (from-same k (n + 1) es f)
-      where
-        more : Good n → (j : ℕ) → Reaches g (plan n) j ⊎ (reached g es j ≡ true) → Good j
-        more h j (inl t) = on-at n j h t
-        more h j (inr t) = f j t
-
-        go : (b : Bool) → reached g es n ≡ b → (Good n → plannedFrom g plan k (n + 1) (plan n ∷ es) ≡ plannedFrom g other k (n + 1) (plan n ∷ es)) → plannedFrom g plan k (n + 1) es ≡ plannedFrom g other k (n + 1) es
-            → cond b (plan n ∷ plannedFrom g plan k (n + 1) (plan n ∷ es)) (plannedFrom g plan k (n + 1) es) ≡ cond b (other n ∷ plannedFrom g other k (n + 1) (other n ∷ es)) (plannedFrom g other k (n + 1) es)
-        go true t u v = ap (λ (l : List Entry). plan n ∷ l) (u (f n t)) ∙ ap (λ (e : Entry). e ∷ plannedFrom g other k (n + 1) (e ∷ es)) (same n (f n t))
-        go false t u v = v
-
-    pub planned-same : planned g plan ≡ planned g other
-    unfolding planned
-    planned-same = from-same (length g) 0 [] root-good

@@ -1,4 +1,5 @@
 -- The instance file (01, 'Instance', and 'Where a number arises').
+use mathlib.Core.Path.{_≡_}
 use Prim.Native.Nat.{ℕ, zero, suc, _+_}
 use mathlib.Core.List.{List, [], _∷_, _++_}
 use mathlib.Core.Bool.{Bool, true, cond, _&&_, _||_, not}
@@ -126,3 +127,7 @@ encode g i = IH ++ spell 1 (length i) ++ encodeEntries g i
 -- '1,283 bytes, enough for any instance'
 abbrev pub mostBytes : ℕ
 mostBytes = 1283
+
+-- 'an instance written and read back is the same instance'
+pub record ReadsBack (g : List Node) (i : List Entry) : Type 0 where
+  pub back : instance g (encode g i) ≡ got i (length (encode g i))

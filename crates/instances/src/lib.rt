@@ -26,10 +26,7 @@ pub fn chooses(schema: &[u8], table: &[u16], n: usize) -> bool
     requires { ⌜ NodeIn (now schema) (now table) n ⌝ }
     ensures { λ r. ⌜ r ≡ chooses (nodeAt (schemaOf (now (schema .entry))) n) ⌝ }
 {
-    if nodes::kind_of(schema, table, n) == 1 {
-        return 0 < nodes::successor_count(schema, table, n);
-    }
-    false
+    0 < nodes::rank_count(schema, table, n)
 }
 
 fn with_successors(schema: &[u8], table: &[u16], n: usize, m: u64) -> u64

@@ -19,7 +19,7 @@ use Rattle.instances.specs.Plan.{planned}
 use Rattle.instances.proofs.IsInstance.{inDomains, Reached, root, IsInstance}
 use Rattle.instances.proofs.Valid.{successor-in}
 use Rattle.instances.proofs.RoundTrip.{reached-below}
-use Rattle.instances.proofs.Planned.{Sure, planned-is, planned-mine, planned-good, planned-same}
+use Rattle.instances.proofs.Planned.{Sure, planned-is, planned-mine, planned-good}
 use Rattle.model.specs.Satisfaction.{every}
 use Rattle.model.specs.Order.{choiceAt}
 use Rattle.model.specs.Reconciling.{Rules, isSome, best, taken, canStep, can, plan, reconcile}
@@ -75,10 +75,6 @@ module _ (g : List Node) (A : Sound g) (r : Rules) where
   pub can-by-table : (tab : ℕ → Bool) (n : ℕ) → n < length g → ((s : ℕ) → n < s → s < length g → tab s ≡ can g r s) → canStep g r tab n ≡ can g r n
   unfolding can Alike
   can-by-table tab n l f = by-table (length g) (λ n. n < length g) (λ n l. l) (canStep g r) can-local tab n l f
-
-  pub taken-by-table : (tab : ℕ → Bool) (n : ℕ) → ((s : ℕ) → n < s → s < length g → tab s ≡ can g r s) → taken g r tab n ≡ taken g r (can g r) n
-  unfolding Alike
-  taken-by-table tab n f = taken-local tab (can g r) n f
 
   module _ (L : Lawful g r) where
     -- ---- what is known of a node that can be met
@@ -157,10 +153,6 @@ module _ (g : List Node) (A : Sound g) (r : Rules) where
               let q = k .choice w in
               record { below-count = rw z (below n (plan g r n .choice) (q .among)); can-be = rw z (and-true (r .allowed n (plan g r n .choice)) (can g r (plan g r n .choice)) (q .passes) .1) }
           next n s k false w e = record { below-count = below n s e; can-be = every-at (can g r) (nodeAt g n .successors) (k .rest w .1) s e }
-
-      -- for an engine: any plan that is the same at the nodes that can be met gives the same instance
-      pub answer-by-plan : (other : ℕ → Entry) → ((n : ℕ) → n < length g → can g r n ≡ true → plan g r n ≡ other n) → planned g (plan g r) ≡ planned g other
-      answer-by-plan other f = planned-same g A (plan g r) Good sure other (λ n k. f n (k .below-count) (k .can-be))
 
       answer-instance : IsInstance g answer
       unfolding answer

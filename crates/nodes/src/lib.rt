@@ -5,6 +5,7 @@ ghost use Prim.Native.Nat.{_<_};
 ghost use lib.ListN.{length};
 ghost use Rattle.schema.specs.Schema.{mostNodes, schemaOf, nodeAt, variableAt, isNumber};
 ghost use Rattle.schema.specs.declared.Variable.the-variants.{Number};
+ghost use Rattle.schema.specs.Layout.{rankCount};
 ghost use Rattle.schema.specs.Table.{Accepted, NodeIn, AtMost, SuccessorIs};
 use schema::MOST_NODES;
 use schema::NODE_SLOTS;
@@ -37,15 +38,6 @@ pub fn count_of(s: &[u8]) -> usize
     fields::wide(s[2])
 }
 
-// Node n's kind.
-pub fn kind_of(s: &[u8], table: &[u16], n: usize) -> u8
-    requires { ⌜ NodeIn (now s) (now table) n ⌝ }
-    ensures { λ r. ⌜ AtMost 1 (nodeAt (schemaOf (now (s .entry))) n .kind) r ⌝ }
-{
-    let at = table[NODE_SLOTS * n] as usize;
-    s[at + 2]
-}
-
 // The number of node n's successors.
 pub fn successor_count(s: &[u8], table: &[u16], n: usize) -> usize
     requires { ⌜ NodeIn (now s) (now table) n ⌝ }
@@ -70,9 +62,15 @@ pub fn variable_count(s: &[u8], table: &[u16], n: usize) -> usize
     requires { ⌜ NodeIn (now s) (now table) n ⌝ }
     ensures { λ r. ⌜ AtMost 4 (length (nodeAt (schemaOf (now (s .entry))) n .variables)) r ⌝ }
 {
-    let at = table[NODE_SLOTS * n] as usize;
-    let c = fields::wide(s[at + 3]);
-    fields::wide(s[at + 4 + c])
+    table[NODE_SLOTS * n + 7] as usize / 16
+}
+
+// The number of ranks that node n has in a PN.
+pub fn rank_count(s: &[u8], table: &[u16], n: usize) -> usize
+    requires { ⌜ NodeIn (now s) (now table) n ⌝ }
+    ensures { λ r. ⌜ AtMost 8 (rankCount (nodeAt (schemaOf (now (s .entry))) n)) r ⌝ }
+{
+    table[NODE_SLOTS * n + 7] as usize % 16
 }
 
 // Node n's variable k.

@@ -13,7 +13,7 @@ use lib.Dec.{eqb, ltb}
 use lib.Bits.{bitAnd, bitOr, bitXor, differ, and-shr, and-step, or-shr, or-step, xor-shr, xor-step}
 use lib.Pow.{pow-pos, pow-lt, pow-mono, pow-add, shl-shr, shl-exact, ones-split, high, ones-lt}
 use lib.Count.{trailingZeros, under}
-use Rattle.fields.proofs.Tests.{never, or-true, or-left, or-right, and-yes, and-true, alike, is-not}
+use Rattle.fields.proofs.Tests.{never, or-left, or-right, and-yes, and-true, alike, is-not}
 use Rattle.numbers.specs.Bits.{bit, ones, with, turned, without, withAll}
 use Rattle.numbers.specs.Lowest.{Lowest}
 
@@ -83,8 +83,8 @@ pub whole-size : (m n : ℕ) → m < 2 ^ 32 → 32 ≤ n → true ≡ ltb m (2 ^
 whole-size m n h l = sym (lt-ltb m (2 ^ n) (lt-of-lt-of-le h (pow-mono l)))
 
 -- a mask moved up by its spare bits, and what that says of it
-pub spare-size : (m k : ℕ) → m < 2 ^ 32 → k ≤ 32 → eqb (m * 2 ^ k % 18446744073709551616 / 2 ^ 32) 0 ≡ ltb (m * 2 ^ k) (2 ^ 32)
-spare-size m k h l = let e : m * 2 ^ k % 2 ^ 64 ≡ m * 2 ^ k = shl-exact 32 k 64 h (omega arith) in ap (λ (i : ℕ). eqb (i / 2 ^ 32) 0) e ∙ part-size (m * 2 ^ k) 32
+pub moved-up : (m k : ℕ) → m < 2 ^ 32 → k ≤ 32 → m * 2 ^ k % 18446744073709551616 / 2 ^ 32 ≡ m * 2 ^ k / 2 ^ 32
+moved-up m k h l = let e : m * 2 ^ k % 2 ^ 64 ≡ m * 2 ^ k = shl-exact 32 k 64 h (omega arith) in ap (λ (i : ℕ). i / 2 ^ 32) e
 
 pub spare-within : (m size : ℕ) → m * 2 ^ (32 - size) < 2 ^ 32 → m < 2 ^ size
 spare-within m size l = go (decLt 32 size)
@@ -231,30 +231,6 @@ all-in m k (x ∷ xs) l i = go (List·Memᴰ·cases-cons i) (all-in (with m x) k
     go : (k ≡ x) ⊎ List·Memᴰ k xs → (List·Memᴰ k xs → bit (withAll (with m x) xs) k ≡ true) → bit (withAll (with m x) xs) k ≡ true
     go (inl e) ih = all-keeps (with m x) k xs (with-bit m x k (omega arith) ∙ or-right (bit m k) (eqb k x) (eq-eqb k x e))
     go (inr i) ih = ih i
-
-with-only : (m x k : ℕ) → bit (with m x) k ≡ true → (bit m k ≡ true) ⊎ (k ≡ x)
-with-only m x k h = go (decLt x 64)
-  where
-    test : (bit m k ≡ true) ⊎ (eqb k x ≡ true) → (bit m k ≡ true) ⊎ (k ≡ x)
-    test (inl e) = inl e
-    test (inr e) = inr (eqb-true k x e)
-
-    go : Dec (x < 64) → (bit m k ≡ true) ⊎ (k ≡ x)
-    go (yes l) = test (or-true (bit m k) (eqb k x) (sym (with-bit m x k l) ∙ h))
-    go (no l) = inl (ap (λ (z : ℕ). bit z k) (with-out x m (omega arith)) ∙ h)
-
-pub all-only : (m k : ℕ) (l : List ℕ) → bit (withAll m l) k ≡ true → (bit m k ≡ true) ⊎ List·Memᴰ k l
-unfolding withAll
-all-only m k [] h = inl h
-all-only m k (x ∷ xs) h = go (all-only (with m x) k xs h)
-  where
-    test : (bit m k ≡ true) ⊎ (k ≡ x) → (bit m k ≡ true) ⊎ List·Memᴰ k (x ∷ xs)
-    test (inl e) = inl e
-    test (inr e) = inr (List·Memᴰ·head e)
-
-    go : (bit (with m x) k ≡ true) ⊎ List·Memᴰ k xs → (bit m k ≡ true) ⊎ List·Memᴰ k (x ∷ xs)
-    go (inl e) = test (with-only m x k e)
-    go (inr i) = inr (List·Memᴰ·tail i)
 
 -- ---- masks
 

@@ -1,6 +1,6 @@
 // Signed bounds, masks of values and sets of nodes.
 ghost use mathlib.Core.Path.{_≡_};
-ghost use Prim.Native.Nat.{_*_, _^_, _<_, _≤_};
+ghost use Prim.Native.Nat.{_*_, _/_, _^_, _<_, _≤_};
 ghost use lib.Dec.{ltb};
 ghost use Rattle.numbers.specs.Bits.{bit, ones, with, turned, without};
 ghost use Rattle.numbers.specs.Signs.{maxZ, minZ};
@@ -102,10 +102,10 @@ pub fn within(mask: u32, size: u8) -> bool
     mask >> size == 0
 }
 
-// No bit of the mask among its highest, so many of them: moved up by them it does not outgrow 32 bits.
-pub fn spares(mask: u32, spare: u16) -> bool
-    requires { ⌜ spare ≤ 32 ⌝ }
-    ensures { λ r. ⌜ r ≡ ltb (mask * 2 ^ spare) (2 ^ 32) ⌝ }
+// The bits of the mask among its highest, so many of them, as a number: what of it passes 32 bits, moved up by them.
+pub fn highest(mask: u32, count: u16) -> u32
+    requires { ⌜ count ≤ 32 ⌝ }
+    ensures { λ r. ⌜ r ≡ mask * 2 ^ count / 2 ^ 32 ⌝ }
 {
-    ((mask as u64) << spare) >> 32 == 0
+    (((mask as u64) << count) >> 32) as u32
 }

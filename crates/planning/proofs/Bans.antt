@@ -1,5 +1,5 @@
 -- Which successors stay: a set loses those whose column is banned.
--- Rests on the laws of the columns that conditions answers, and on the successors of a sound schema.
+-- Rests on the laws of the columns that ranks answers, and on the successors of a sound schema.
 use mathlib.Core.Path.{_≡_, refl, ap, sym, subst, _∙_}
 use mathlib.Core.Bool.{Bool, true, false, not, _&&_}
 use mathlib.Core.List.{List}
@@ -23,8 +23,8 @@ use Rattle.instances.specs.Instance.{elem, chooses}
 use Rattle.model.specs.Satisfaction.{allowed}
 use Rattle.model.proofs.Lists.{at-elem, Place, elem-at}
 use Rattle.order.proofs.Successors.{successor-small}
-use Rattle.conditions.specs.Ranks.{allowedColumn, Bans}
-use Rattle.conditions.proofs.Ranks.{allowed-successor}
+use Rattle.ranks.specs.Ranks.{allowedColumn, Bans}
+use Rattle.ranks.proofs.Ranks.{allowed-successor}
 use Rattle.planning.specs.Sweep.{Columns, NoneBanned, Allowed}
 use Rattle.planning.proofs.Unnamed.{unnamed-allowed}
 use Rattle.planning.proofs.Node.{node-columns}

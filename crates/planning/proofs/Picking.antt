@@ -30,8 +30,8 @@ use Rattle.model.proofs.Successors.{IsBest, no-best, a-best, best-is, best-at, 
 use Rattle.model.proofs.Ranks.{better-strict, better-total}
 use Rattle.order.specs.Order.{countUp, betterIn, inSet, firstColumn, Picked}
 use Rattle.order.proofs.Best.{in-strict, count-length, count-of}
-use Rattle.conditions.specs.Ranks.{betterColumn, RanksGathered}
-use Rattle.conditions.proofs.Ranks.{better-gathered}
+use Rattle.ranks.specs.Ranks.{betterColumn, RanksGathered}
+use Rattle.ranks.proofs.Ranks.{better-gathered}
 use Rattle.planning.specs.Sweep.{Columns, SuccessorsIn, Choice, Chosen}
 use Rattle.planning.proofs.Unnamed.{unnamed-better}
 

@@ -2,7 +2,6 @@
 // values, then which of them are reached and what these choose, and how long the instance's file is.
 ghost use mathlib.Core.Path.{_≡_};
 ghost use mathlib.Core.Bool.{true};
-ghost use Prim.Native.Nat.{max};
 ghost use lib.ListN.{length, replicate};
 ghost use Rattle.schema.specs.Schema.{mostNodes, schemaOf, nodeAt};
 ghost use Rattle.schema.specs.Table.{NodeIn, Accepted, Tabled, SetsIn, AtMost};
@@ -70,7 +69,7 @@ fn choose_by_ranks(
 {
     let columns = nodes::successor_count(schema, table, n);
     let mut ranks = [0u8; RANKS];
-    let count = conditions::gather(schema, table, p, rows, n, &mut ranks);
+    let count = ranks::gather(schema, table, p, rows, n, &mut ranks);
     let mut set = [0u8; MOST_SUCCESSORS];
     fill_set(schema, table, n, columns, eligible, &mut set);
     let k = order::pick(&ranks, count, columns, &set);
@@ -96,24 +95,17 @@ fn choose(schema: &[u8], table: &[u16], p: &[u8], rows: &[u16], n: usize, eligib
     choose_by_ranks(schema, table, p, rows, n, eligible)
 }
 
-// The greater of two ranks.
-fn greater_rank(a: u8, b: u8) -> u8
-    ensures { λ r. ⌜ r ≡ max a b ⌝ }
-{
-    if a < b { b } else { a }
-}
-
 // Whether no column is banned, by the greatest of the eight.
 fn none_banned(bans: &[u8; MOST_SUCCESSORS]) -> bool
     ensures { λ r. ⌜ NoneBanned (now (bans .entry)) r ⌝ }
 {
-    let a = greater_rank(bans[0], bans[1]);
-    let b = greater_rank(bans[2], bans[3]);
-    let c = greater_rank(bans[4], bans[5]);
-    let d = greater_rank(bans[6], bans[7]);
-    let e = greater_rank(a, b);
-    let f = greater_rank(c, d);
-    greater_rank(e, f) < 255
+    let a = ranks::greater_rank(bans[0], bans[1]);
+    let b = ranks::greater_rank(bans[2], bans[3]);
+    let c = ranks::greater_rank(bans[4], bans[5]);
+    let d = ranks::greater_rank(bans[6], bans[7]);
+    let e = ranks::greater_rank(a, b);
+    let f = ranks::greater_rank(c, d);
+    ranks::greater_rank(e, f) < 255
 }
 
 // A set of nodes without those successors of node n, which chooses, that a noted policy forbids.
@@ -127,7 +119,7 @@ fn keep_allowed(schema: &[u8], table: &[u16], p: &[u8], rows: &[u16], n: usize, 
         return nodes;
     }
     let mut bans = [0u8; MOST_SUCCESSORS];
-    conditions::bans(schema, table, p, rows, n, &mut bans);
+    ranks::bans(schema, table, p, rows, n, &mut bans);
     let mut kept = nodes;
     if none_banned(&bans) {
         return kept;

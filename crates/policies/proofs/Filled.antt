@@ -12,7 +12,7 @@ use lib.Seq.{append-snoc, getD-append-seam, getD-take, getD-drop, length-take-le
 use lib.Dec.{eqb}
 use Rattle.schema.specs.Schema.{Node}
 use Rattle.policies.specs.Policies.{Rule, Policy}
-use Rattle.policies.specs.Index.{ruleWidth, policyWidth}
+use Rattle.policies.specs.Widths.{ruleWidth, policyWidth}
 use Rattle.fields.specs.Shorts.{short}
 use Rattle.policies.specs.Rows.{rowSlot, offsetSlot, note, noteRules, notePolicy, notePolicies, rowsOf, offsetsIn}
 use Rattle.policies.proofs.Stands.{none, more, PoliciesAt}

@@ -1,7 +1,7 @@
 pub mod Stands
 pub mod Sound
 pub mod Nodes
-pub mod Places
+pub mod Part
 pub mod Within
 pub mod Pass
 pub mod Rows
@@ -9,3 +9,6 @@ pub mod Widths
 pub mod Stretch
 pub mod Filled
 pub mod Noted
+pub mod Rules
+pub mod Row
+pub mod Offsets

@@ -12,7 +12,7 @@ use lib.Seq.{getD-take, length-take-le}
 use lib.Dec.{eqb}
 use Rattle.schema.specs.Schema.{Node, schemaOf, nodeAt}
 use Rattle.policies.specs.Policies.{Rule, Policy, policiesOf, hasRule, ruleFor, ofRules}
-use Rattle.policies.specs.Index.{ruleWidth, rulesWidth, policyWidth}
+use Rattle.policies.specs.Widths.{ruleWidth, rulesWidth, policyWidth}
 use Rattle.policies.specs.Pass.{inForce, forced}
 use Rattle.fields.specs.Shorts.{short}
 use Rattle.policies.specs.Rows.{rowSlot, offsetSlot, rowsOf, ruleAt, rulesAt, offsetsIn, notedFrom, noted, rulesFor, RuleAt, Noted}
@@ -47,7 +47,7 @@ rules-append n (x ∷ xs) ys = go (hasRule n (x .rules)) (rules-append n xs ys)
 
 -- one PN of node m, by itself
 module _ (n : ℕ) (x : Rule) (qs : List Policy) where
-  rules-here : x .node ≡ n → rulesFor n (ofRules (x ∷ []) ∷ qs) ≡ x ∷ rulesFor n qs
+  pub rules-here : x .node ≡ n → rulesFor n (ofRules (x ∷ []) ∷ qs) ≡ x ∷ rulesFor n qs
   unfolding rulesFor hasRule ruleFor
   rules-here e = rw (eq-eqb (x .node) n e)
 

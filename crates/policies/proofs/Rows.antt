@@ -10,7 +10,7 @@ use lib.ListN.{length, getD, set, replicate, length-set, List·getD-eq-default}
 use lib.Seq.{getD-set-same, getD-set-other}
 use Rattle.schema.specs.Schema.{Node, schemaOf}
 use Rattle.policies.specs.Policies.{Rule, Policy}
-use Rattle.policies.specs.Index.{ruleWidth, policyWidth}
+use Rattle.policies.specs.Widths.{ruleWidth, policyWidth}
 use Rattle.fields.specs.Shorts.{short}
 use Rattle.policies.specs.Rows.{rowSlot, offsetSlot, note, noteRules, notePolicy, notePolicies}
 use Rattle.policies.proofs.Sound.{SoundRules, SoundPolicy}

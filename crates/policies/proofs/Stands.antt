@@ -17,7 +17,7 @@ use Rattle.schema.specs.declared.Variable.{Variable}
 use Rattle.schema.specs.declared.Variable.the-variants.{Number, Listed}
 use Rattle.schema.specs.Layout.{rankCount, span}
 use Rattle.policies.specs.Policies.{Condition, range, mask, Rule, Policy, Head, PH, PN, ranks, condition, conditions, ruleOf, rule, rules, head, headWidth, policy, onward, policiesFrom}
-use Rattle.policies.specs.Index.{conditionWidth, conditionsWidth, ruleWidth, rulesWidth, policyWidth}
+use Rattle.policies.specs.Widths.{conditionWidth, conditionsWidth, ruleWidth, rulesWidth, policyWidth}
 
 -- ---- a condition
 

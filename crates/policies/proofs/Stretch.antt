@@ -16,7 +16,7 @@ use Rattle.schema.specs.declared.Variable.{Variable}
 use Rattle.schema.specs.declared.Variable.the-variants.{Number, Listed}
 use Rattle.schema.specs.Layout.{rankCount}
 use Rattle.policies.specs.Policies.{Condition, Rule, ranks, condition, conditions, ruleOf}
-use Rattle.policies.specs.Index.{conditionWidth}
+use Rattle.policies.specs.Widths.{conditionWidth}
 use Rattle.policies.specs.Rows.{ruleIn, ruleAt, RuleAt}
 use Rattle.policies.proofs.Stands.{ConditionAt, ConditionsAt, none, more, RanksAt, RuleAt as Stands}
 

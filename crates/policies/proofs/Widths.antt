@@ -15,7 +15,7 @@ use Rattle.schema.specs.Schema.{Node, SN, node, links, successors, variablesOf,
 use Rattle.schema.specs.Layout.{rankCount}
 use Rattle.schema.proofs.Accepted.{file-of, view}
 use Rattle.policies.specs.Policies.{Condition, range, mask, Rule, Policy}
-use Rattle.policies.specs.Index.{conditionWidth, conditionsWidth, ruleWidth, rulesWidth, policyWidth}
+use Rattle.policies.specs.Widths.{conditionWidth, conditionsWidth, ruleWidth, rulesWidth, policyWidth}
 use Rattle.fields.specs.Shorts.{short}
 use Rattle.policies.proofs.Stands.{PolicyAt, head-back}
 use Rattle.policies.proofs.Sound.{SoundRule, SoundRules, sound-rules}

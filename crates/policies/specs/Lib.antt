@@ -1,4 +1,4 @@
 pub mod Policies
 pub mod Pass
-pub mod Index
+pub mod Widths
 pub mod Rows

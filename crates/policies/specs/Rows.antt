@@ -8,7 +8,7 @@ use Rattle.fields.specs.Reading.{Got, got, bad}
 use Rattle.fields.specs.Shorts.{short}
 use Rattle.schema.specs.Schema.{Node, schemaOf, nodeAt}
 use Rattle.policies.specs.Policies.{Rule, Policy, ruleOf, mostPolicies, ofRules, noRule, hasRule, ruleFor}
-use Rattle.policies.specs.Index.{ruleWidth, policyWidth}
+use Rattle.policies.specs.Widths.{ruleWidth, policyWidth}
 
 -- ---- a row for each node: how many of the selected policies name it, then where the ranks of each begin, in file order
 
@@ -91,6 +91,12 @@ pub record RulesAt (g : List Node) (p : List ℕ) (n count : ℕ) (offsets : Lis
   pub few : count ≤ mostPolicies
   pub long : count ≤ length offsets
   pub each : (r : ℕ) → r < count → RuleAt g p n (getD offsets r 0)
+
+-- so many bytes of the file p stand from each of the first so many offsets on
+pub record BytesAt (p : List ℕ) (count : ℕ) (offsets : List ℕ) (width : ℕ) : Type 0 where
+  pub few : count ≤ mostPolicies
+  pub long : count ≤ length offsets
+  pub each : (r : ℕ) → r < count → getD offsets r 0 + width ≤ length p
 
 -- the rows t note PN of the file p under the schema file s
 pub record Noted (s p t : List ℕ) : Type 0 where

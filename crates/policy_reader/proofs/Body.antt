@@ -1,12 +1,11 @@
--- A PN is read to its end if its bytes are all there and its masks fit: so one test of the length, and of each mask, will do.
+-- A PN is read to its end if its bytes are all there and its masks fit: so one test of the length, and one of the masks, will do.
 -- Rests on the definitions of the readings and of the table's slots, and on schema's Accepted for the number of a node's variables.
-use mathlib.Core.Path.{_≡_, refl, ap, sym, _∙_}
+use mathlib.Core.Path.{_≡_, refl, ap, ap₂, sym, _∙_}
 use mathlib.Core.Bool.{Bool, true, false, _&&_, _||_}
 use mathlib.Core.List.{List, [], _∷_}
-use Prim.Native.Nat.{ℕ, zero, suc, _+_, _-_, _*_, _^_, _≤_, _<_}
+use Prim.Native.Nat.{ℕ, zero, suc, _+_, _-_, _*_, _/_, _^_, _≤_, _<_}
 use native.Mathlib.Omega.{arith}
-use native.Mathlib.Nat.{add-zero}
-use native.Mathlib.Decide.{decLt}
+use native.Mathlib.Nat.{add-zero, zero-add}
 use borrow.Author.Tests.{leb-true, le-leb, lt-leb, lt-ltb, ltb-true, eq-eqb, ne-eqb, eqb-true}
 use lib.ListN.{length, getD}
 use lib.Dec.{leb, ltb, eqb}
@@ -17,7 +16,7 @@ use Rattle.fields.specs.Answers.{stepOf}
 use Rattle.fields.specs.declared.Step.the-variants.{Next}
 use Rattle.fields.proofs.Reading.{whole-got}
 use Rattle.fields.proofs.Tests.{and-true, and-no, and-no-2, and-yes, or-yes}
-use Rattle.numbers.proofs.Bits.{spare-within}
+use Rattle.numbers.proofs.Bits.{part-size, spare-within}
 use Rattle.schema.specs.Schema.{Node, schemaOf, nodeAt, noVariable}
 use Rattle.schema.specs.declared.Variable.{Variable}
 use Rattle.schema.specs.declared.Variable.the-variants.{Number, Listed}
@@ -25,9 +24,9 @@ use Rattle.schema.specs.Layout.{rankCount, span, spans, offsetOf, ruleLength, m
 use Rattle.schema.proofs.Accepted.{file-of, view}
 use Rattle.schema.proofs.Access.{laid}
 use Rattle.policies.specs.Policies.{Condition, range, mask, PN, ranks, condition, conditions, ruleOf}
-use Rattle.policies.specs.Index.{SchemaIn}
+use Rattle.schema.specs.Table.{SchemaIn}
 use Rattle.policies.proofs.Nodes.{nodes-few}
-use Rattle.policy_reader.specs.Body.{masksFit, Looking, isWhole, isGood, isBare, Shape, Shapes}
+use Rattle.policy_reader.specs.Body.{excessOf, masksFit, Looking, isWhole, isGood, isNext, Shape, Shapes}
 
 -- the bytes of a node's ranks and conditions
 unfoldable bodyWidth : Node → ℕ
@@ -143,16 +142,26 @@ whole-inside s w p e =
     let both = and-true (leb w (length s - p)) (eqb (be 2 s p) (be 2 PN 0)) e in
     (leb-true w (length s - p) (both .0), eqb-true (be 2 s p) (be 2 PN 0) (both .1))
 
-fits-at : (t s : List ℕ) (n p k : ℕ) → masksFit t s n p k ≡ true → (i : ℕ) → i < k → be 4 s (p + getD t (16 * n + 8 + i) 0) * 2 ^ getD t (16 * n + 12 + i) 0 < 2 ^ 32
+fits-one : (t s : List ℕ) (n p k : ℕ) → eqb (excessOf t s n p k) 0 ≡ true → be 4 s (p + getD t (16 * n + 8 + k) 0) * 2 ^ getD t (16 * n + 12 + k) 0 < 2 ^ 32
+unfolding excessOf
+fits-one t s n p k e =
+    let m = be 4 s (p + getD t (16 * n + 8 + k) 0) * 2 ^ getD t (16 * n + 12 + k) 0 in
+    ltb-true m (2 ^ 32) (sym (part-size m 32) ∙ e)
+
+fits-at : (t s : List ℕ) (n p : ℕ) → masksFit t s n p ≡ true → (k : ℕ) → k < 4 → be 4 s (p + getD t (16 * n + 8 + k) 0) * 2 ^ getD t (16 * n + 12 + k) 0 < 2 ^ 32
 unfolding masksFit
-fits-at t s n p zero e i l = absurd (omega arith)
-fits-at t s n p (suc k) e i l =
-    let both = and-true (ltb (be 4 s (p + getD t (16 * n + 8 + k) 0) * 2 ^ getD t (16 * n + 12 + k) 0) (2 ^ 32)) (masksFit t s n p k) e in
-    go (ltb-true (be 4 s (p + getD t (16 * n + 8 + k) 0) * 2 ^ getD t (16 * n + 12 + k) 0) (2 ^ 32) (both .0)) (fits-at t s n p k (both .1) i) (decLt i k)
+fits-at t s n p e k l =
+    let both = and-true (eqb (excessOf t s n p 0) 0 && eqb (excessOf t s n p 1) 0) (eqb (excessOf t s n p 2) 0 && eqb (excessOf t s n p 3) 0) e in
+    fits-one t s n p k
+    (one k l (and-true (eqb (excessOf t s n p 0) 0) (eqb (excessOf t s n p 1) 0) (both .0)) (and-true (eqb (excessOf t s n p 2) 0) (eqb (excessOf t s n p 3) 0) (both .1)))
   where
-    go : be 4 s (p + getD t (16 * n + 8 + k) 0) * 2 ^ getD t (16 * n + 12 + k) 0 < 2 ^ 32 → (i < k → be 4 s (p + getD t (16 * n + 8 + i) 0) * 2 ^ getD t (16 * n + 12 + i) 0 < 2 ^ 32) → Dec (i < k) → be 4 s (p + getD t (16 * n + 8 + i) 0) * 2 ^ getD t (16 * n + 12 + i) 0 < 2 ^ 32
-    go a f (yes h) = f h
-    go a f (no h) = let z : k ≡ i = omega arith in rw z at a
+    one : (k : ℕ) → k < 4 → (eqb (excessOf t s n p 0) 0 ≡ true) × (eqb (excessOf t s n p 1) 0 ≡ true) → (eqb (excessOf t s n p 2) 0 ≡ true) × (eqb (excessOf t s n p 3) 0 ≡ true)
+        → eqb (excessOf t s n p k) 0 ≡ true
+    one zero l a b = a .0
+    one (suc zero) l a b = a .1
+    one (suc (suc zero)) l a b = b .0
+    one (suc (suc (suc zero))) l a b = b .1
+    one (suc (suc (suc (suc k)))) l a b = absurd (omega arith)
 
 module _ (schema t : List ℕ) (n : ℕ) (w : Laid (schemaOf schema) t) (b : n < length (schemaOf schema)) where
   abbrev node : Node
@@ -178,7 +187,7 @@ module _ (schema t : List ℕ) (n : ℕ) (w : Laid (schemaOf schema) t) (b : n <
   pub good-read : (s : List ℕ) (p : ℕ) → isGood t s n p ≡ true → p ≤ length s → Next (p + getD t (16 * n + 5) 0) ≡ stepOf (ruleOf s node n (p + 3))
   unfolding isGood offsetOf
   good-read s p e l =
-      let both = and-true (isWhole s (getD t (16 * n + 5) 0) p) (eqb (getD t (16 * n + 6) 0) 0 || masksFit t s n (p + 3) 4) e in
+      let both = and-true (isWhole s (getD t (16 * n + 5) 0) p) (eqb (getD t (16 * n + 6) 0) 0 || masksFit t s n (p + 3)) e in
       let i = whole-inside s (getD t (16 * n + 5) 0) p (both .0) .0 in
       let q : p + getD t (16 * n + 5) 0 ≡ p + 3 + bodyWidth node = omega (arith, width-is) in
       ap Next q ∙ body-there s node n (p + 3) (omega (arith, width-is)) (fits (eqb (getD t (16 * n + 6) 0) 0) refl (both .1))
@@ -187,11 +196,11 @@ module _ (schema t : List ℕ) (n : ℕ) (w : Laid (schemaOf schema) t) (b : n <
           → Fit s (p + 3 + offsetOf node k) (getD (node .variables) k noVariable)
       spared k l m h = fit-spare s (p + 3) (node .variables) (rankCount node) k l (rw (w .each n b .skip k m, w .each n b .spare k m) at h)
 
-      fits : (m : Bool) → eqb (getD t (16 * n + 6) 0) 0 ≡ m → (m || masksFit t s n (p + 3) 4) ≡ true
+      fits : (m : Bool) → eqb (getD t (16 * n + 6) 0) 0 ≡ m → (m || masksFit t s n (p + 3)) ≡ true
           → (k : ℕ) → k < length (node .variables) → Fit s (p + 3 + offsetOf node k) (getD (node .variables) k noVariable)
       fits true e h k l =
           fit-none s (p + 3 + offsetOf node k) (node .variables) k l (sym (w .each n b .masks) ∙ eqb-true (getD t (16 * n + 6) 0) 0 e)
-      fits false e h k l = spared k l (let z = variables-few schema n b in omega arith) (fits-at t s n (p + 3) 4 h k (let z = variables-few schema n b in omega arith))
+      fits false e h k l = spared k l (let z = variables-few schema n b in omega arith) (fits-at t s n (p + 3) h k (let z = variables-few schema n b in omega arith))
 
 pub shapes-of : (schema t : List ℕ) {count : ℕ} → SchemaIn schema t count → Shapes t count
 shapes-of schema t c =
@@ -199,6 +208,14 @@ shapes-of schema t c =
     record { few = omega (arith, c .counted, nodes-few schema); long = omega (arith, c .counted, w .long); each = λ n l. shape-of schema t n w (omega (arith, c .counted)) }
 
 -- ---- the tests
+
+and-last : (a : Bool) {b : Bool} → b ≡ false → (a && b) ≡ false
+and-last true e = e
+and-last false e = refl
+
+and-alone : (a : Bool) {b : Bool} → b ≡ true → (a && b) ≡ a
+and-alone true e = e
+and-alone false e = refl
 
 pub whole-short : (s : List ℕ) (w p : ℕ) → length s - p < w → false ≡ isWhole s w p
 unfolding isWhole
@@ -211,14 +228,14 @@ whole-marked s w p h e = rw (le-leb w (length s - p) h) e
 module _ (t s : List ℕ) (n p : ℕ) {v : Bool} (e : v ≡ isWhole s (getD t (16 * n + 5) 0) p) where
   pub good-not : v ≡ false → false ≡ isGood t s n p
   unfolding isGood
-  good-not h = sym (and-no (eqb (getD t (16 * n + 6) 0) 0 || masksFit t s n (p + 3) 4) (sym e ∙ h))
+  good-not h = sym (and-no (eqb (getD t (16 * n + 6) 0) 0 || masksFit t s n (p + 3)) (sym e ∙ h))
 
   module _ (h : v ≡ true) where
     pub good-bare : getD t (16 * n + 6) 0 ≡ 0 → true ≡ isGood t s n p
     unfolding isGood
-    good-bare z = sym (and-yes (sym e ∙ h) (or-yes (masksFit t s n (p + 3) 4) (eq-eqb (getD t (16 * n + 6) 0) 0 z)))
+    good-bare z = sym (and-yes (sym e ∙ h) (or-yes (masksFit t s n (p + 3)) (eq-eqb (getD t (16 * n + 6) 0) 0 z)))
 
-    pub good-masks : (getD t (16 * n + 6) 0 ≡ 0 → ⊥) → {u : Bool} → u ≡ masksFit t s n (p + 3) 4 → u ≡ isGood t s n p
+    pub good-masks : (getD t (16 * n + 6) 0 ≡ 0 → ⊥) → {u : Bool} → u ≡ masksFit t s n (p + 3) → u ≡ isGood t s n p
     unfolding isGood
     good-masks z d = rw (sym e ∙ h, ne-eqb (getD t (16 * n + 6) 0) 0 z) d
 
@@ -229,78 +246,56 @@ module _ (t s : List ℕ) (n p : ℕ) {v : Bool} (e : v ≡ isWhole s (getD t (1
       pub good-looking : (getD t (16 * n + 6) 0 ≡ 0 → ⊥) → Looking t s n (p + 3)
       good-looking z = record { long = w .long; there = λ k l. omega (arith, w .there k l z, whole-there); spare = w .spare }
 
-      pub bare-there : p + 2 < length s
-      bare-there = omega (arith, w .least, whole-there)
+      pub node-there : p + 2 < length s
+      node-there = omega (arith, w .least, whole-there)
 
-  module _ (z : getD t (16 * n + 6) 0 ≡ 0) where
-    pub bare-not : v ≡ false → false ≡ isBare t s n p
-    unfolding isBare
-    bare-not h = sym (and-no-2 (eq-eqb (getD t (16 * n + 6) 0) 0 z) (and-no (eqb (getD s (p + 2) 0) n) (sym e ∙ h)))
+    module _ {b : ℕ} (j : b ≡ getD s (p + 2) 0) where
+      pub next-other : (b ≡ n → ⊥) → false ≡ isNext t s n p
+      unfolding isNext
+      next-other x = sym (and-last (isGood t s n p) (ne-eqb (getD s (p + 2) 0) n (λ i. x (j ∙ i))))
 
-    pub bare-node : v ≡ true → {b : ℕ} → b ≡ getD s (p + 2) 0 → eqb b n ≡ isBare t s n p
-    unfolding isBare
-    bare-node h j = rw (eq-eqb (getD t (16 * n + 6) 0) 0 z, sym e ∙ h) (ap (λ (i : ℕ). eqb i n) j)
+      module _ (x : b ≡ n) where
+        named : eqb (getD s (p + 2) 0) n ≡ true
+        named = eq-eqb (getD s (p + 2) 0) n (sym j ∙ x)
 
-pub bare-masked : (t s : List ℕ) (n p : ℕ) → (getD t (16 * n + 6) 0 ≡ 0 → ⊥) → false ≡ isBare t s n p
-unfolding isBare
-bare-masked t s n p z = sym (and-no (isWhole s (getD t (16 * n + 5) 0) p && eqb (getD s (p + 2) 0) n) (ne-eqb (getD t (16 * n + 6) 0) 0 z))
+        pub next-bare : getD t (16 * n + 6) 0 ≡ 0 → true ≡ isNext t s n p
+        unfolding isNext
+        next-bare z = sym (and-yes (sym (good-bare z)) named)
+
+        pub next-masks : (getD t (16 * n + 6) 0 ≡ 0 → ⊥) → {u : Bool} → u ≡ masksFit t s n (p + 3) → u ≡ isNext t s n p
+        unfolding isNext
+        next-masks z d = good-masks z d ∙ sym (and-alone (isGood t s n p) named)
+
+  pub next-not : v ≡ false → false ≡ isNext t s n p
+  unfolding isNext
+  next-not h = sym (and-no (eqb (getD s (p + 2) 0) n) (sym (good-not h)))
 
 -- back
-pub record Bare (t s : List ℕ) (n p : ℕ) : Type 0 where
-  pub masks : getD t (16 * n + 6) 0 ≡ 0
-  pub whole : isWhole s (getD t (16 * n + 5) 0) p ≡ true
-  pub node : getD s (p + 2) 0 ≡ n
+pub next-back : (t s : List ℕ) (n p : ℕ) → isNext t s n p ≡ true → (isGood t s n p ≡ true) × (getD s (p + 2) 0 ≡ n)
+unfolding isNext
+next-back t s n p e = let both = and-true (isGood t s n p) (eqb (getD s (p + 2) 0) n) e in (both .0, eqb-true (getD s (p + 2) 0) n (both .1))
 
-pub bare-back : (t s : List ℕ) (n p : ℕ) → isBare t s n p ≡ true → Bare t s n p
-unfolding isBare
-bare-back t s n p e =
-    let a = and-true (eqb (getD t (16 * n + 6) 0) 0) (isWhole s (getD t (16 * n + 5) 0) p && eqb (getD s (p + 2) 0) n) e in
-    let b = and-true (isWhole s (getD t (16 * n + 5) 0) p) (eqb (getD s (p + 2) 0) n) (a .1) in
-    record { masks = eqb-true (getD t (16 * n + 6) 0) 0 (a .0); whole = b .0; node = eqb-true (getD s (p + 2) 0) n (b .1) }
+-- ---- the masks
 
--- ---- the loop over the masks, from the last: what is left equals the whole
+module _ (t s : List ℕ) (n p k : ℕ) (w : Looking t s n p) (l : k < 4) where
+  pub mask-spare : getD t (16 * n + 12 + k) 0 ≤ 32
+  mask-spare = w .spare k l
 
-pub record Looked (t s : List ℕ) (n p k : ℕ) : Type 0 where
-  pub upto : k ≤ 4
-  pub left : masksFit t s n p k ≡ masksFit t s n p 4
+  pub mask-there : p + getD t (16 * n + 8 + k) 0 + 4 ≤ length s
+  mask-there = w .there k l
 
-pub masks-init : (t s : List ℕ) (n p : ℕ) → Looked t s n p 4
-masks-init t s n p = record { upto = omega arith; left = refl }
+  pub mask-fits : length s < 2 ^ 64 → Fits w64 (p + getD t (16 * n + 8 + k) 0)
+  mask-fits m = record { fits = omega (arith, mask-there) }
 
-module _ (t s : List ℕ) (n p k : ℕ) (i : Looked t s n p k) (l : 0 < k) where
-  module _ (w : Looking t s n p) where
-    pub mask-spare : getD t (16 * n + 12 + (k - 1)) 0 ≤ 32
-    mask-spare = w .spare (k - 1) (omega (arith, i .upto))
+pub excess-is : (t s : List ℕ) (n p k : ℕ) {u r : ℕ} → u ≡ be 4 s (p + getD t (16 * n + 8 + k) 0) → r ≡ u * 2 ^ getD t (16 * n + 12 + k) 0 / 2 ^ 32 → r ≡ excessOf t s n p k
+unfolding excessOf
+excess-is t s n p k e d = d ∙ ap (λ (i : ℕ). i * 2 ^ getD t (16 * n + 12 + k) 0 / 2 ^ 32) e
 
-    pub mask-there : p + getD t (16 * n + 8 + (k - 1)) 0 + 4 ≤ length s
-    mask-there = w .there (k - 1) (omega (arith, i .upto))
+none-both : (x y : ℕ) → eqb (x + y) 0 ≡ (eqb x 0 && eqb y 0)
+none-both zero y = ap (λ (i : ℕ). eqb i 0) (zero-add y)
+none-both (suc x) y = ne-eqb (suc x + y) 0 (λ e. omega arith) ∙ sym (and-no (eqb y 0) (ne-eqb (suc x) 0 (λ e. omega arith)))
 
-    pub mask-fits : length s < 2 ^ 64 → Fits w64 (p + getD t (16 * n + 8 + (k - 1)) 0)
-    mask-fits m = record { fits = omega (arith, mask-there) }
-
-  abbrev last : Bool
-  last = ltb (be 4 s (p + getD t (16 * n + 8 + (k - 1)) 0) * 2 ^ getD t (16 * n + 12 + (k - 1)) 0) (2 ^ 32)
-
-  whole-is : (last && masksFit t s n p (k - 1)) ≡ masksFit t s n p 4
-  unfolding masksFit
-  whole-is = ap (masksFit t s n p) (let z : suc (k - 1) ≡ k = omega arith in z) ∙ i .left
-
-  module _ {u : ℕ} {v : Bool} (e : u ≡ be 4 s (p + getD t (16 * n + 8 + (k - 1)) 0))
-      (d : v ≡ ltb (u * 2 ^ getD t (16 * n + 12 + (k - 1)) 0) (2 ^ 32)) where
-    is-last : last ≡ v
-    is-last = ap (λ (j : ℕ). ltb (j * 2 ^ getD t (16 * n + 12 + (k - 1)) 0) (2 ^ 32)) (sym e) ∙ sym d
-
-    pub masks-bad : v ≡ false → false ≡ masksFit t s n p 4
-    masks-bad h = sym (and-no (masksFit t s n p (k - 1)) (is-last ∙ h)) ∙ whole-is
-
-    pub masks-step : v ≡ true → Looked t s n p (k - 1)
-    masks-step h =
-        record {
-          upto = omega (arith, i .upto);
-          left = ap (λ (j : Bool). j && masksFit t s n p (k - 1)) (sym (is-last ∙ h)) ∙ whole-is;
-        }
-
-pub masks-exit : (t s : List ℕ) (n p k : ℕ) → Looked t s n p k → k ≤ 0 → true ≡ masksFit t s n p 4
+pub masks-none : (t s : List ℕ) (n p : ℕ) {w x y z : ℕ} → w ≡ excessOf t s n p 0 → x ≡ excessOf t s n p 1 → y ≡ excessOf t s n p 2 → z ≡ excessOf t s n p 3
+    → eqb (w + x + (y + z)) 0 ≡ masksFit t s n p
 unfolding masksFit
-masks-exit t s n p zero i h = i .left
-masks-exit t s n p (suc k) i h = absurd (omega arith)
+masks-none t s n p {w} {x} {y} {z} a b c d = rw (← a, ← b, ← c, ← d) (none-both (w + x) (y + z) ∙ ap₂ _&&_ (none-both w x) (none-both y z))

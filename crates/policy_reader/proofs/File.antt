@@ -17,14 +17,15 @@ use Rattle.fields.specs.declared.Step.the-variants.{Next, Bad}
 use Rattle.schema.specs.Schema.{Node, schemaOf}
 use Rattle.policies.specs.Policies.{Rule, Policy, Head, rules, head, policy, onward, policiesFrom, policies}
 use Rattle.policies.specs.Pass.{inForce}
-use Rattle.policies.specs.Index.{policyWidth, SchemaIn}
+use Rattle.policies.specs.Widths.{policyWidth}
+use Rattle.schema.specs.Table.{SchemaIn}
 use Rattle.policies.specs.Rows.{notePolicy, notePolicies, rowsOf, RowsRoom}
-use Rattle.policy_reader.specs.Runs.{headIn, Open, noteRulesIf, noteInForce, leftOf, Ready, Leaves, endOf, Turned}
+use Rattle.policy_reader.specs.Runs.{headIn, Open, noteRulesIf, noteInForce, leftOf, Ready, Leaves, lastTurn, endOf, Turned}
 use Rattle.policy_reader.specs.Answers.{YieldsPolicies}
 use Rattle.policy_reader.specs.declared.Turn.{Turn}
 use Rattle.policy_reader.specs.declared.HeadRead.{HeadRead}
 use Rattle.policy_reader.specs.declared.HeadRead.the-variants.{Found, NoHead}
-use Rattle.policies.proofs.Places.{rest}
+use Rattle.policies.proofs.Part.{rest}
 use Rattle.policies.proofs.Rows.{Counted, counted-init, counted-policy}
 use Rattle.policies.proofs.Sound.{sound-policy}
 use Rattle.policies.proofs.Stands.{head-back, policy-back}
@@ -121,23 +122,23 @@ module _ (g : List Node) (s : List ℕ) (a b j p : ℕ) (t : List ℕ) where
   abbrev from : ℕ → Run (List ℕ)
   from k = runOf (notePolicies (inForce a b) p) (policiesFrom g s k p) t
 
-  pub turn-end : length s ≤ p → Turned g s a b j p t (record { more = false; number = 0; at = p }) t
+  pub turn-end : length s ≤ p → {r : Turn} → r ≡ lastTurn 0 p → Turned g s a b j p t r t
   unfolding policiesFrom notePolicies
-  turn-end l = record { goes = λ X w e. never e; ends = λ X w e. go X (16 - j) (w .left) }
+  turn-end l d = rw d (record { goes = λ X w e. never e; ends = λ X w e. go X (16 - j) (w .left) })
     where
       go : (X : Run (List ℕ)) (k : ℕ) → runOf (notePolicies (inForce a b) p) (policiesFrom g s k p) t ≡ X → did p t ≡ X
       go X zero i = rw (le-ltb p (length s) l) at i
       go X (suc k) i = rw (le-ltb p (length s) l) at i
 
-  pub turn-eight : p < length s → j ≡ 16 → Turned g s a b j p t (record { more = false; number = 8; at = p }) t
+  pub turn-eight : p < length s → j ≡ 16 → {r : Turn} → r ≡ lastTurn 8 p → Turned g s a b j p t r t
   unfolding policiesFrom
-  turn-eight l e =
-      record {
+  turn-eight l e d =
+      rw d (record {
         goes = λ X w e. never e;
         ends = λ X w k.
             let i : from 0 ≡ X = ap from (let z : 0 ≡ 16 - j = omega arith in z) ∙ w .left in
             rw (lt-ltb p (length s) l) at i;
-      }
+      })
 
   here : (X : Run (List ℕ)) → (j ≡ 16 → ⊥) → Leaves g s a b j p t X → from (suc (15 - j)) ≡ X
   here X n w = ap from (let z : suc (15 - j) ≡ 16 - j = omega (arith, w .upto) in z) ∙ w .left
@@ -155,13 +156,13 @@ module _ (g : List Node) (s : List ℕ) (a b j p : ℕ) (t : List ℕ) where
         let k : ofFile m ≡ true = rw (bad-there h) at (policy-within (drop p s) g .number) in
         never (sym (ap ofFile z) ∙ k)
 
-    pub turn-bad : {m o : ℕ} → f ≡ Bad m o → Turned g s a b j p t (record { more = false; number = m; at = p + o }) u
+    pub turn-bad : {m o : ℕ} → f ≡ Bad m o → {r : Turn} → r ≡ lastTurn m (p + o) → Turned g s a b j p t r u
     unfolding policiesFrom onward part
-    turn-bad {m} {o} h =
-        record {
+    turn-bad {m} {o} h d =
+        rw d (record {
           goes = λ X w e. never e;
           ends = λ X w k. rw (ne-eqb m 0 (numbered h)) (rw (lt-ltb p (length s) l, bad-there h) at (here X n w));
-        }
+        })
 
     pub turn-more : {q : ℕ} → f ≡ Next q → Turned g s a b j p t (record { more = true; number = 0; at = p + q }) u
     unfolding policiesFrom onward part noteInForce

@@ -25,13 +25,13 @@ use Rattle.fields.proofs.Bytes.{be2}
 use Rattle.fields.proofs.Tests.{and-yes, and-no, and-no-2, and-true}
 use Rattle.schema.specs.Schema.{Node, nodeAt, schemaOf}
 use Rattle.schema.specs.Layout.{Laid}
-use Rattle.schema.specs.Table.{NodeIn}
+use Rattle.schema.specs.Table.{NodeIn, SchemaIn}
 use Rattle.schema.proofs.Access.{laid}
 use Rattle.policies.specs.Policies.{Rule, PN, ruleOf, rule, rules}
-use Rattle.policies.specs.Index.{ruleWidth, SchemaIn}
+use Rattle.policies.specs.Widths.{ruleWidth}
 use Rattle.fields.specs.Shorts.{short}
 use Rattle.policies.specs.Rows.{rowSlot, note, noteRules}
-use Rattle.policy_reader.specs.Body.{masksFit, isWhole, isGood, isBare, Shape, Shapes}
+use Rattle.policy_reader.specs.Body.{masksFit, isWhole, isGood, isNext, Shape, Shapes}
 use Rattle.policy_reader.specs.Runs.{ruleRead, Room, Open, noteIf, noteRulesIf, leftOf, InRow, RowEnd, none, more, Row}
 use Rattle.policy_reader.specs.declared.RuleRead.{RuleRead}
 use Rattle.policy_reader.specs.declared.RuleRead.the-variants.{Named, NoRule}
@@ -39,7 +39,7 @@ use Rattle.policies.proofs.Nodes.{nodes-few}
 use Rattle.policies.proofs.Rows.{note-length, note-other}
 use Rattle.policies.proofs.Stands.{rule-of-back, rule-back}
 use Rattle.policies.proofs.Within.{pn-within}
-use Rattle.policy_reader.proofs.Body.{whole-inside, shape-of, good-read, good-bare, bare-back, shapes-of}
+use Rattle.policy_reader.proofs.Body.{whole-inside, shape-of, good-read, next-back, shapes-of}
 
 -- ---- one PN
 
@@ -144,7 +144,7 @@ pair-same s m p {x} {y} a b = go (ℕ-discrete x y)
 
 good-whole : (t s : List ℕ) (n p : ℕ) → isGood t s n p ≡ true → isWhole s (getD t (16 * n + 5) 0) p ≡ true
 unfolding isGood
-good-whole t s n p e = and-true (isWhole s (getD t (16 * n + 5) 0) p) (eqb (getD t (16 * n + 6) 0) 0 || masksFit t s n (p + 3) 4) e .0
+good-whole t s n p e = and-true (isWhole s (getD t (16 * n + 5) 0) p) (eqb (getD t (16 * n + 6) 0) 0 || masksFit t s n (p + 3)) e .0
 
 module _ (schema t s : List ℕ) (low n p : ℕ) (w : Laid (schemaOf schema) t) (a : low ≤ n) (b : n < length (schemaOf schema)) (i : n ≡ getD s (p + 2) 0)
     (l : p ≤ length s) {v : Bool} (e : v ≡ isGood t s n p) (h : v ≡ true) where
@@ -275,9 +275,9 @@ module _ (t s : List ℕ) (keep : Bool) (h from : ℕ) (u₀ : List ℕ) (count 
     pub row-shape : Shape t n
     row-shape = w .each n l
 
-    module _ {v : Bool} (e : v ≡ isBare t s n p) (z : v ≡ true) where
+    module _ {v : Bool} (e : v ≡ isNext t s n p) (z : v ≡ true) where
       row-inside : getD t (16 * n + 5) 0 ≤ length s - p
-      row-inside = whole-inside s (getD t (16 * n + 5) 0) p (bare-back t s n p (sym e ∙ z) .whole) .0
+      row-inside = whole-inside s (getD t (16 * n + 5) 0) p (good-whole t s n p (next-back t s n p (sym e ∙ z) .0)) .0
 
       row-end : p + getD t (16 * n + 5) 0 ≤ length s
       row-end = omega (arith, row-inside, row-shape .least)
@@ -303,12 +303,11 @@ module _ (t s : List ℕ) (keep : Bool) (h from : ℕ) (u₀ : List ℕ) (count 
 
 -- what is left after those equals what was left before
 module _ (schema t s : List ℕ) (w : Laid (schemaOf schema) t) where
-  row-named : (n p : ℕ) → n < length (schemaOf schema) → isBare t s n p ≡ true → Named n (p + getD t (16 * n + 5) 0) ≡ ruleRead (rule (schemaOf schema) s n p)
+  row-named : (n p : ℕ) → n < length (schemaOf schema) → isNext t s n p ≡ true → Named n (p + getD t (16 * n + 5) 0) ≡ ruleRead (rule (schemaOf schema) s n p)
   row-named n p b e =
-      let d = bare-back t s n p e in
-      let i = whole-inside s (getD t (16 * n + 5) 0) p (d .whole) .0 in
-      good-rule schema t s n n p w (omega arith) b (sym (d .node)) (omega (arith, shape-of schema t n w b .least))
-      (good-bare t s n p (sym (d .whole)) refl (d .masks)) refl
+      let d = next-back t s n p e in
+      let i = whole-inside s (getD t (16 * n + 5) 0) p (good-whole t s n p (d .0)) .0 in
+      good-rule schema t s n n p w (omega arith) b (sym (d .1)) (omega (arith, shape-of schema t n w b .least)) (sym (d .0)) refl
 
   row-left : (keep : Bool) (h from : ℕ) (u₀ : List ℕ) {n p : ℕ} {u : List ℕ} → InRow t s keep h from u₀ n p u → n ≤ length (schemaOf schema)
       → (k : ℕ) → leftOf (schemaOf schema) s keep h k n p u ≡ leftOf (schemaOf schema) s keep h (n + k) 0 from u₀

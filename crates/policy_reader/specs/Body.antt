@@ -1,20 +1,23 @@
--- The bytes of a PN by the table of the nodes: so the reader takes them by one test of the length, and one of each mask.
+-- The bytes of a PN by the table of the nodes: so the reader takes them by one test of the length, and one of its masks.
 -- For the contracts of functions that no other crate calls.
-use Prim.Native.Nat.{ℕ, zero, suc, _+_, _-_, _*_, _^_, _<_, _≤_}
+use Prim.Native.Nat.{ℕ, _+_, _-_, _*_, _/_, _^_, _<_, _≤_}
 use mathlib.Core.Path.{_≡_}
 use mathlib.Core.List.{List}
-use mathlib.Core.Bool.{Bool, true, _&&_, _||_}
+use mathlib.Core.Bool.{Bool, _&&_, _||_}
 use lib.ListN.{length, getD}
-use lib.Dec.{leb, ltb, eqb}
+use lib.Dec.{leb, eqb}
 use Rattle.fields.specs.Reading.{be}
 use Rattle.schema.specs.Schema.{mostNodes}
 use Rattle.schema.specs.Layout.{lengthSlot, masksSlot, skipSlot, spareSlot}
 use Rattle.policies.specs.Policies.{PN}
 
--- the first k masks of node n have no bit among their spare ones, in a PN whose ranks begin at p
-unfoldable pub masksFit : List ℕ → List ℕ → ℕ → ℕ → ℕ → Bool
-masksFit t s n p zero = true
-masksFit t s n p (suc k) = ltb (be 4 s (p + getD t (skipSlot n k) 0) * 2 ^ getD t (spareSlot n k) 0) (2 ^ 32) && masksFit t s n p k
+-- what the mask of node n's variable k has among its spare bits, in a PN whose ranks begin at p
+unfoldable pub excessOf : List ℕ → List ℕ → ℕ → ℕ → ℕ → ℕ
+excessOf t s n p k = be 4 s (p + getD t (skipSlot n k) 0) * 2 ^ getD t (spareSlot n k) 0 / 2 ^ 32
+
+-- none of its four has a bit there
+unfoldable pub masksFit : List ℕ → List ℕ → ℕ → ℕ → Bool
+masksFit t s n p = (eqb (excessOf t s n p 0) 0 && eqb (excessOf t s n p 1) 0) && (eqb (excessOf t s n p 2) 0 && eqb (excessOf t s n p 3) 0)
 
 -- they are there
 pub record Looking (t s : List ℕ) (n p : ℕ) : Type 0 where
@@ -28,11 +31,11 @@ isWhole s w p = leb w (length s - p) && eqb (be 2 s p) (be 2 PN 0)
 
 -- so are those of a PN of node n, and its masks fit
 unfoldable pub isGood : List ℕ → List ℕ → ℕ → ℕ → Bool
-isGood t s n p = isWhole s (getD t (lengthSlot n) 0) p && (eqb (getD t (masksSlot n) 0) 0 || masksFit t s n (p + 3) 4)
+isGood t s n p = isWhole s (getD t (lengthSlot n) 0) p && (eqb (getD t (masksSlot n) 0) 0 || masksFit t s n (p + 3))
 
--- so are those of a PN of node n, which has no mask
-unfoldable pub isBare : List ℕ → List ℕ → ℕ → ℕ → Bool
-isBare t s n p = eqb (getD t (masksSlot n) 0) 0 && (isWhole s (getD t (lengthSlot n) 0) p && eqb (getD s (p + 2) 0) n)
+-- so are those of a PN that names node n
+unfoldable pub isNext : List ℕ → List ℕ → ℕ → ℕ → Bool
+isNext t s n p = isGood t s n p && eqb (getD s (p + 2) 0) n
 
 -- what the table t has of the PN of node n can be looked at
 pub record Shape (t : List ℕ) (n : ℕ) : Type 0 where

@@ -14,9 +14,9 @@ use Rattle.schema.specs.Schema.{Node}
 use Rattle.schema.specs.Layout.{lengthSlot}
 use Rattle.policies.specs.Policies.{Rule, Policy, Head, mostPolicies, rules, policiesFrom}
 use Rattle.policies.specs.Pass.{inForce}
-use Rattle.policies.specs.Index.{SchemaIn}
+use Rattle.schema.specs.Table.{SchemaIn}
 use Rattle.policies.specs.Rows.{rowSlot, note, noteRules, notePolicy, notePolicies}
-use Rattle.policy_reader.specs.Body.{isBare}
+use Rattle.policy_reader.specs.Body.{isNext}
 use Rattle.policy_reader.specs.declared.HeadRead.{HeadRead}
 use Rattle.policy_reader.specs.declared.HeadRead.the-variants.{Found, NoHead}
 use Rattle.policy_reader.specs.declared.Turn.{Turn}
@@ -62,12 +62,12 @@ noteInForce a b h x t = notePolicy (inForce a b x) h x t
 abbrev pub leftOf : List Node → List ℕ → Bool → ℕ → ℕ → ℕ → ℕ → List ℕ → Run (List ℕ)
 leftOf g s keep h k low p t = runOf (noteRulesIf keep h p) (rules g s k low p) t
 
--- ---- PN of the nodes from 0 on, one after the other, of nodes with no mask
+-- ---- PN of the nodes from 0 on, one after the other
 
 -- those of the nodes below n, from `from` to p, by the table t; they made of the rows u₀ the rows u
 pub data InRow (t s : List ℕ) (keep : Bool) (h from : ℕ) (u₀ : List ℕ) : ℕ → ℕ → List ℕ → Type 0 where
   none : InRow t s keep h from u₀ 0 from u₀
-  more : {n p : ℕ} {u : List ℕ} → InRow t s keep h from u₀ n p u → isBare t s n p ≡ true
+  more : {n p : ℕ} {u : List ℕ} → InRow t s keep h from u₀ n p u → isNext t s n p ≡ true
       → InRow t s keep h from u₀ (n + 1) (p + getD t (lengthSlot n) 0) (noteIf keep n (h + p + 3) u)
 
 -- of at most so many nodes
@@ -97,6 +97,10 @@ pub record Leaves (g : List Node) (s : List ℕ) (a b j p : ℕ) (t : List ℕ) 
   pub upto : j ≤ mostPolicies
   pub few : (n : ℕ) → getD t (rowSlot n) 0 ≤ j
   pub left : runOf (notePolicies (inForce a b) p) (policiesFrom g s (mostPolicies - j) p) t ≡ X
+
+-- a turn after which there is none, with its number
+abbrev pub lastTurn : ℕ → ℕ → Turn
+lastTurn n p = record { more = false; number = n; at = p }
 
 -- the answer of a last turn
 abbrev pub endOf : Turn → Step

@@ -8,16 +8,15 @@ ghost use Rattle.fields.specs.Reading.{be};
 ghost use Rattle.fields.specs.Runs.{outcome, runOf};
 ghost use Rattle.schema.specs.Schema.{schemaOf};
 ghost use Rattle.policies.specs.Policies.{rule, head, policy};
-ghost use Rattle.policies.specs.Index.{SchemaIn};
+ghost use Rattle.schema.specs.Table.{SchemaIn};
 ghost use Rattle.policies.specs.Rows.{RowsRoom};
-ghost use Rattle.policy_reader.specs.Body.{masksFit, Looking, isWhole, isGood, isBare, Shape, Shapes};
-ghost use Rattle.policy_reader.specs.Runs.{headIn, ruleRead, noteIf, noteInForce, leftOf, Room, Open, Row, RowEnd, Ready, Turned, endOf};
+ghost use Rattle.policy_reader.specs.Body.{excessOf, masksFit, Looking, isWhole, isGood, isNext, Shape, Shapes};
+ghost use Rattle.policy_reader.specs.Runs.{headIn, ruleRead, noteIf, noteInForce, leftOf, Room, Open, Row, RowEnd, Ready, lastTurn, Turned, endOf};
 ghost use Rattle.policy_reader.specs.Answers.{YieldsPolicies};
 use fields::Field;
 use fields::Step;
 use policies::MOST_POLICIES;
 use policies::ROW_SLOTS;
-use schema::MOST_VARIABLES;
 use schema::NODE_SLOTS;
 
 // A policy's head and the position after it, or a breach.
@@ -92,21 +91,28 @@ fn head_at(p: &[u8], at: usize) -> HeadRead
     read_head(&p[end..])
 }
 
-// Whether the masks of node n fit their variables, in a PN whose ranks begin at a position; all of them are there.
+// The bits of a mask that no value of its variable has, as a number: that of node n's variable k, in a PN whose ranks begin at
+// a position; 0 where the variable is a number.
+fn excess(table: &[u16], n: usize, k: usize, b: &[u8], from: usize) -> u32
+    requires { ⌜ Looking (now table) (now b) n from ⌝ }
+    requires { ⌜ k < 4 ⌝ }
+    ensures { λ r. ⌜ r ≡ excessOf (now (table .entry)) (now (b .entry)) n from k ⌝ }
+{
+    let skip = table[NODE_SLOTS * n + 8 + k] as usize;
+    let spare = table[NODE_SLOTS * n + 12 + k];
+    numbers::highest(fields::u32_at(b, from + skip), spare)
+}
+
+// Whether the masks of node n fit their variables, in a PN whose ranks begin at a position: all four at once, without a branch.
 fn masks_good(table: &[u16], n: usize, b: &[u8], from: usize) -> bool
     requires { ⌜ Looking (now table) (now b) n from ⌝ }
-    ensures { λ r. ⌜ r ≡ masksFit (now (table .entry)) (now (b .entry)) n from 4 ⌝ }
+    ensures { λ r. ⌜ r ≡ masksFit (now (table .entry)) (now (b .entry)) n from ⌝ }
 {
-    let mut k = MOST_VARIABLES;
-    while 0 < k {
-        k -= 1;
-        let skip = table[NODE_SLOTS * n + 8 + k] as usize;
-        let spare = table[NODE_SLOTS * n + 12 + k];
-        if numbers::spares(fields::u32_at(b, from + skip), spare) {} else {
-            return false;
-        }
-    }
-    true
+    let w = excess(table, n, 0, b, from) as u64;
+    let x = excess(table, n, 1, b, from) as u64;
+    let y = excess(table, n, 2, b, from) as u64;
+    let z = excess(table, n, 3, b, from) as u64;
+    (w + x) + (y + z) == 0
 }
 
 // Two bytes as one number, the first one low.
@@ -151,15 +157,18 @@ fn is_good(table: &[u16], n: usize, b: &[u8], at: usize) -> bool
     false
 }
 
-// Whether a PN of node n stands at a position, of a node that has no listed variable.
-fn is_bare(table: &[u16], n: usize, b: &[u8], at: usize) -> bool
+// The same, where the node that the PN names is not known to be n.
+fn is_next(table: &[u16], n: usize, b: &[u8], at: usize) -> bool
     requires { ⌜ Shape (now table) n ⌝ }
     requires { ⌜ at ≤ length (now b) ⌝ }
-    ensures { λ r. ⌜ r ≡ isBare (now (table .entry)) (now (b .entry)) n at ⌝ }
+    ensures { λ r. ⌜ r ≡ isNext (now (table .entry)) (now (b .entry)) n at ⌝ }
 {
-    if table[NODE_SLOTS * n + 6] == 0 {
-        if is_whole(b, table[NODE_SLOTS * n + 5] as usize, at) {
-            return fields::wide(b[at + 2]) == n;
+    if is_whole(b, table[NODE_SLOTS * n + 5] as usize, at) {
+        if fields::wide(b[at + 2]) == n {
+            if table[NODE_SLOTS * n + 6] == 0 {
+                return true;
+            }
+            return masks_good(table, n, b, at + 3);
         }
         return false;
     }
@@ -178,8 +187,8 @@ fn note_if(keep: bool, n: usize, offset: usize, rows: &mut [u16])
     }
 }
 
-// The PN of the nodes from 0 on that stand in a row, as far as these have no listed variable: a loop of its own, so that
-// the other ways to read a PN do not slow it down.
+// The PN of the nodes from 0 on that stand in a row: a loop of its own, in which the node is known before the PN is read, so
+// that one PN need not wait for the one before it.
 fn take_row(
     table: &[u16],
     count: usize,
@@ -198,7 +207,7 @@ fn take_row(
     let mut low: usize = 0;
     let mut at = from;
     while low < count {
-        if is_bare(table, low, b, at) {
+        if is_next(table, low, b, at) {
             note_if(keep, low, head + at + 3, rows);
             at += table[NODE_SLOTS * low + 5] as usize;
             low += 1;
@@ -390,6 +399,16 @@ struct Turn {
     at: usize,
 }
 
+fn last_turn(number: u8, at: usize) -> Turn
+    ensures { λ r. ⌜ r ≡ lastTurn number at ⌝ }
+{
+    Turn {
+        more: false,
+        number,
+        at,
+    }
+}
+
 // The turn at an offset of the file, after j policies.
 fn turn_at(
     schema: &[u8],
@@ -406,25 +425,13 @@ fn turn_at(
     ensures { λ r. ⌜ Turned (schemaOf (now (schema .entry))) (now (p .entry)) a b j at (now (rows .entry)) r (now (rows .exit)) ⌝ }
 {
     if p.len() <= at {
-        return Turn {
-            more: false,
-            number: 0,
-            at,
-        };
+        return last_turn(0, at);
     }
     if j == MOST_POLICIES {
-        return Turn {
-            more: false,
-            number: 8,
-            at,
-        };
+        return last_turn(8, at);
     }
     match read_policy(schema, table, count, p, at, a, b, rows) {
-        Step::Bad { number, offset } => Turn {
-            more: false,
-            number,
-            at: at + offset,
-        },
+        Step::Bad { number, offset } => last_turn(number, at + offset),
         Step::Next { at: width } => Turn {
             more: true,
             number: 0,

@@ -9,7 +9,7 @@ use native.Mathlib.Omega.{arith}
 use native.Mathlib.Nat.{zero-add}
 use borrow.Author.Tests.{le-leb, lt-leb, le-ltb, ltb-true, ltb-false}
 use lib.Dec.{ltb}
-use lib.ListN.{length, drop, replicate, length-replicate}
+use lib.ListN.{length, drop}
 use Rattle.fields.specs.Writing.{put, Wrote}
 use Rattle.fields.specs.Answers.{success, refusal}
 use Rattle.fields.specs.Outcomes.{Did, placed}
@@ -21,7 +21,7 @@ use Rattle.schema.proofs.Accepted.{sound}
 use Rattle.instances.specs.Instance.{Entry}
 use Rattle.instances.specs.File.{mostBytes, encode}
 use Rattle.instances.specs.Plan.{planned, nodesOf, planOf}
-use Rattle.planning.specs.Plan.{planFor, Plans, fileLength, EligibleRoom}
+use Rattle.planning.specs.Plan.{planFor, Plans, fileLength}
 use Rattle.planning.proofs.Measuring.{file-length-is, file-length-most}
 use Rattle.planning.specs.declared.Plan.{Plan}
 use Rattle.planning.specs.declared.Plan.the-variants.{Infeasible, Feasible}
@@ -84,18 +84,3 @@ module _ (s choices bits : List ℕ) {plan : Plan} {nodes : ℕ} (w : Plans (sch
       plan-written h u i =
           let z : 0 + length file ≡ length file = zero-add (length file) in
           rw (e, le-leb (length file) (length out) (plan-room h)) (record { answer = i ∙ ap success (u .next ∙ z); buffer = u .holds ∙ ap (λ (i : ℕ). file ++ drop i out) z })
-
--- ---- room for the eligible successors
-
-module _ (s : List ℕ) {count : ℕ} (e : AtMost 64 (length (schemaOf s)) count) where
-  eligible-room : (k : ℕ) → count ≤ k → EligibleRoom s (replicate k 0)
-  eligible-room k h = record { long = omega (arith, e .is, length-replicate {A = ℕ} k 0) }
-
-  pub eligible-4 : count ≤ 4 → EligibleRoom s (replicate 4 0)
-  eligible-4 h = eligible-room 4 h
-
-  pub eligible-16 : count ≤ 16 → EligibleRoom s (replicate 16 0)
-  eligible-16 h = eligible-room 16 h
-
-  pub eligible-64 : EligibleRoom s (replicate 64 0)
-  eligible-64 = eligible-room 64 (e .most)

@@ -1,14 +1,14 @@
 // The reconciler: schema, policies and pass are read, an instance is planned for the policies in force, and its file written.
 ghost use mathlib.Core.Path.{_≡_};
+ghost use Prim.Native.Nat.{_≤_};
 ghost use lib.Dec.{ltb};
-ghost use Rattle.fields.specs.Outcomes.{Did, leaving};
+ghost use Rattle.fields.specs.Outcomes.{Did};
 ghost use Rattle.schema.specs.Schema.{schemaOf};
-ghost use Rattle.schema.specs.Table.{Accepted, Tabled, SetsIn, Room};
-ghost use Rattle.policies.specs.Rows.{RowsRoom, noted, Noted};
+ghost use Rattle.schema.specs.Table.{Accepted, Tabled, SetsIn, countIn};
+ghost use Rattle.policies.specs.Rows.{noted, Noted};
 ghost use Rattle.instances.specs.Plan.{BitsRoom};
 ghost use Rattle.model.specs.Reconciling.{reconciled};
 ghost use Rattle.planning.specs.Plan.{Plans, fileLength, EligibleRoom};
-ghost use Rattle.calls.specs.Inputs.{withInForce};
 ghost use Rattle.calls.specs.Calls.{given, reconciling};
 ghost use Rattle.reconciler.specs.Plan.{heldBy};
 use fields::Answer;
@@ -87,117 +87,99 @@ fn in_force(
     write_plan(schema, table, plan, &choices, bits, out)
 }
 
-// Policies and pass, once the schema is accepted, with room for the rows, for the eligible successors and for the bits of
-// the values.
-fn with_rows(
-    schema: &[u8],
-    table: &[u16],
-    sets: &[u64],
-    p: &[u8],
-    a: u16,
-    b: u16,
-    rows: &mut [u16],
-    eligible: &mut [u64],
-    bits: &mut [u32],
-    out: &mut [u8],
-) -> Answer
-    requires { ⌜ Accepted (now schema) ⌝ }
-    requires { ⌜ Tabled (now schema) (now table) ⌝ }
-    requires { ⌜ SetsIn (now schema) (now sets) ⌝ }
-    requires { ⌜ RowsRoom (now schema) (now rows) ⌝ }
-    requires { ⌜ EligibleRoom (now schema) (now eligible) ⌝ }
-    requires { ⌜ BitsRoom (now schema) (now bits) ⌝ }
-    ensures { λ r. ⌜ Did (withInForce (leaving (now (out .entry))) (schemaOf (now (schema .entry))) (now (p .entry)) a b (λ ps. given (schemaOf (now (schema .entry))) (now (out .entry)) (reconciled (schemaOf (now (schema .entry))) ps))) r (now (out .exit)) ⌝ }
-{
-    match inputs::read_in_force(schema, table, p, a, b, rows) {
-        Inputs::Refused { answer } => answer,
-        Inputs::Read => in_force(schema, table, sets, p, rows, eligible, bits, out),
-    }
-}
-
-// Policies and pass, once the schema is accepted; few nodes have few rows, which are sooner cleared.
-fn with_schema(
-    schema: &[u8],
-    table: &[u16],
-    sets: &[u64],
-    p: &[u8],
-    a: u16,
-    b: u16,
-    out: &mut [u8],
-) -> Answer
-    requires { ⌜ Accepted (now schema) ⌝ }
-    requires { ⌜ Tabled (now schema) (now table) ⌝ }
-    requires { ⌜ SetsIn (now schema) (now sets) ⌝ }
-    ensures { λ r. ⌜ Did (withInForce (leaving (now (out .entry))) (schemaOf (now (schema .entry))) (now (p .entry)) a b (λ ps. given (schemaOf (now (schema .entry))) (now (out .entry)) (reconciled (schemaOf (now (schema .entry))) ps))) r (now (out .exit)) ⌝ }
-{
-    let count = nodes::count_of(schema);
-    if count <= FEWEST_NODES {
-        let mut rows = [0u16; ROW_SLOTS * FEWEST_NODES];
-        let mut eligible = [0u64; FEWEST_NODES];
-        let mut bits = [0u32; MOST_VARIABLES * FEWEST_NODES];
-        return with_rows(
-            schema,
-            table,
-            sets,
-            p,
-            a,
-            b,
-            &mut rows,
-            &mut eligible,
-            &mut bits,
-            out,
-        );
-    }
-    if count <= FEW_NODES {
-        let mut rows = [0u16; ROW_SLOTS * FEW_NODES];
-        let mut eligible = [0u64; FEW_NODES];
-        let mut bits = [0u32; MOST_VARIABLES * FEW_NODES];
-        return with_rows(
-            schema,
-            table,
-            sets,
-            p,
-            a,
-            b,
-            &mut rows,
-            &mut eligible,
-            &mut bits,
-            out,
-        );
-    }
-    let mut rows = [0u16; ROW_SLOTS * MOST_NODES];
-    let mut eligible = [0u64; MOST_NODES];
-    let mut bits = [0u32; MOST_VARIABLES * MOST_NODES];
-    with_rows(
-        schema,
-        table,
-        sets,
-        p,
-        a,
-        b,
-        &mut rows,
-        &mut eligible,
-        &mut bits,
-        out,
-    )
-}
-
-// The schema, with room for its tables, then the rest.
-fn with_tables(
-    schema: &[u8],
-    p: &[u8],
-    a: u16,
-    b: u16,
-    table: &mut [u16],
-    sets: &mut [u64],
-    out: &mut [u8],
-) -> Answer
-    requires { ⌜ Room (now schema) (now table) (now sets) ⌝ }
+// Schema, policies and pass, then the instance, with tables for the fewest nodes. Each size has a function of its own,
+// called once, so that the compiler makes it part of its caller.
+fn with_fewest(schema: &[u8], p: &[u8], a: u16, b: u16, out: &mut [u8]) -> Answer
+    requires { ⌜ countIn (now schema) ≤ 4 ⌝ }
     ensures { λ r. ⌜ Did (reconciling (now (schema .entry)) (now (p .entry)) a b (now (out .entry))) r (now (out .exit)) ⌝ }
 {
-    match schema::read_schema(schema, table, sets) {
+    let mut table = [0u16; FEWEST_TABLE_SLOTS];
+    let mut sets = [0u64; FEWEST_NODES];
+    match schema::read_schema(schema, &mut table, &mut sets) {
         Step::Bad { number, offset } => fields::refusal(number, 1, offset),
-        Step::Next { at: _ } => with_schema(schema, table, sets, p, a, b, out),
+        Step::Next { at: _ } => {
+            let mut rows = [0u16; ROW_SLOTS * FEWEST_NODES];
+            match inputs::read_in_force(schema, &table, p, a, b, &mut rows) {
+                Inputs::Refused { answer } => answer,
+                Inputs::Read => {
+                    let mut eligible = [0u64; FEWEST_NODES];
+                    let mut bits = [0u32; MOST_VARIABLES * FEWEST_NODES];
+                    in_force(
+                        schema,
+                        &table,
+                        &sets,
+                        p,
+                        &rows,
+                        &mut eligible,
+                        &mut bits,
+                        out,
+                    )
+                }
+            }
+        }
+    }
+}
+
+// The same with tables for few nodes.
+fn with_few(schema: &[u8], p: &[u8], a: u16, b: u16, out: &mut [u8]) -> Answer
+    requires { ⌜ countIn (now schema) ≤ 16 ⌝ }
+    ensures { λ r. ⌜ Did (reconciling (now (schema .entry)) (now (p .entry)) a b (now (out .entry))) r (now (out .exit)) ⌝ }
+{
+    let mut table = [0u16; FEW_TABLE_SLOTS];
+    let mut sets = [0u64; FEW_NODES];
+    match schema::read_schema(schema, &mut table, &mut sets) {
+        Step::Bad { number, offset } => fields::refusal(number, 1, offset),
+        Step::Next { at: _ } => {
+            let mut rows = [0u16; ROW_SLOTS * FEW_NODES];
+            match inputs::read_in_force(schema, &table, p, a, b, &mut rows) {
+                Inputs::Refused { answer } => answer,
+                Inputs::Read => {
+                    let mut eligible = [0u64; FEW_NODES];
+                    let mut bits = [0u32; MOST_VARIABLES * FEW_NODES];
+                    in_force(
+                        schema,
+                        &table,
+                        &sets,
+                        p,
+                        &rows,
+                        &mut eligible,
+                        &mut bits,
+                        out,
+                    )
+                }
+            }
+        }
+    }
+}
+
+// And for any schema.
+fn with_most(schema: &[u8], p: &[u8], a: u16, b: u16, out: &mut [u8]) -> Answer
+    ensures { λ r. ⌜ Did (reconciling (now (schema .entry)) (now (p .entry)) a b (now (out .entry))) r (now (out .exit)) ⌝ }
+{
+    let mut table = [0u16; TABLE_SLOTS];
+    let mut sets = [0u64; MOST_NODES];
+    match schema::read_schema(schema, &mut table, &mut sets) {
+        Step::Bad { number, offset } => fields::refusal(number, 1, offset),
+        Step::Next { at: _ } => {
+            let mut rows = [0u16; ROW_SLOTS * MOST_NODES];
+            match inputs::read_in_force(schema, &table, p, a, b, &mut rows) {
+                Inputs::Refused { answer } => answer,
+                Inputs::Read => {
+                    let mut eligible = [0u64; MOST_NODES];
+                    let mut bits = [0u32; MOST_VARIABLES * MOST_NODES];
+                    in_force(
+                        schema,
+                        &table,
+                        &sets,
+                        p,
+                        &rows,
+                        &mut eligible,
+                        &mut bits,
+                        out,
+                    )
+                }
+            }
+        }
     }
 }
 
@@ -208,16 +190,10 @@ pub fn reconcile(schema: &[u8], policies: &[u8], a: u16, b: u16, out: &mut [u8])
 {
     let count = schema::count_in(schema);
     if count <= FEWEST_NODES {
-        let mut table = [0u16; FEWEST_TABLE_SLOTS];
-        let mut sets = [0u64; FEWEST_NODES];
-        return with_tables(schema, policies, a, b, &mut table, &mut sets, out);
+        return with_fewest(schema, policies, a, b, out);
     }
     if count <= FEW_NODES {
-        let mut table = [0u16; FEW_TABLE_SLOTS];
-        let mut sets = [0u64; FEW_NODES];
-        return with_tables(schema, policies, a, b, &mut table, &mut sets, out);
+        return with_few(schema, policies, a, b, out);
     }
-    let mut table = [0u16; TABLE_SLOTS];
-    let mut sets = [0u64; MOST_NODES];
-    with_tables(schema, policies, a, b, &mut table, &mut sets, out)
+    with_most(schema, policies, a, b, out)
 }

@@ -80,7 +80,7 @@ pub fn read_fields(schema: &[u8], table: &[u16], n: usize, b: &[u8], from: usize
     requires { ⌜ NodeIn (now schema) (now table) n ⌝ }
     ensures { λ r. ⌜ r ≡ stepOf (ruleOf (now (b .entry)) (nodeAt (schemaOf (now (schema .entry))) n) n from) ⌝ }
 {
-    let k = policies::rank_count(schema, table, n);
+    let k = nodes::rank_count(schema, table, n);
     match read_ranks(b, k, from) {
         Step::Bad { number, offset } => Step::Bad { number, offset },
         Step::Next { at } => match read_conditions(schema, table, n, b, at) {

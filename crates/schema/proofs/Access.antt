@@ -3,7 +3,7 @@
 use mathlib.Core.Path.{_≡_, refl, ap, sym, subst, _∙_}
 use mathlib.Core.Bool.{Bool, true, false, cond}
 use mathlib.Core.List.{List, [], _∷_}
-use Prim.Native.Nat.{ℕ, zero, suc, _+_, _*_, _^_, _≤_, _<_}
+use Prim.Native.Nat.{ℕ, zero, suc, _+_, _*_, _/_, _%_, _^_, _≤_, _<_}
 use native.Mathlib.Omega.{arith}
 use borrow.Author.Tests.{eq-eqb, ne-eqb}
 use lib.Dec.{eqb}
@@ -17,7 +17,7 @@ use Rattle.fields.specs.Reading.{got, be, signed}
 use Rattle.fields.proofs.Shorts.{short-is}
 use Rattle.fields.proofs.Bytes.{Bytes}
 use Rattle.schema.specs.Schema.{Node, schemaOf, nodeAt, noVariable, isNumber, variable}
-use Rattle.schema.specs.Layout.{Laid}
+use Rattle.schema.specs.Layout.{rankCount, shapeOf, Laid}
 use Rattle.schema.specs.Table.{variableWidth, variablesWidth, bodyOf, nodeWidth, Accepted, Tabled, NodeIn, AtMost, SuccessorIs}
 use Rattle.schema.specs.declared.Variable.{Variable}
 use Rattle.schema.specs.declared.Variable.the-variants.{Number, Listed}
@@ -96,7 +96,7 @@ module _ (s t : List ℕ) (n : ℕ) where
   pub node-small : NodeIn s t n → n < 64
   node-small h = here s t n h .small
 
-  pub node-room : NodeIn s t n → 16 * n < length t
+  pub node-room : NodeIn s t n → 16 * n + 16 ≤ length t
   node-room h = omega (arith, h .below, h .table .long)
 
   pub node-inside : NodeIn s t n → getD t (16 * n) 0 + bodyOf (nodeAt (schemaOf s) n) ≤ length s
@@ -105,18 +105,12 @@ module _ (s t : List ℕ) (n : ℕ) where
   pub linked-at : NodeIn s t n → getD s (getD t (16 * n) 0 + 3) 0 ≡ length (nodeAt (schemaOf s) n .successors)
   linked-at h = sym (here s t n h .one .linked)
 
-  pub linked-inside : {c : ℕ} → NodeIn s t n → c ≡ getD s (getD t (16 * n) 0 + 3) 0 → getD t (16 * n) 0 + 4 + c < length s
-  linked-inside h e = let a = node-inside h in omega (arith, linked-at h)
-
 pub ruleset places = (node-small, node-inside)
 
 -- what an accessor returns
 module _ (s t : List ℕ) (n : ℕ) (h : NodeIn s t n) (b : Bytes s) where
   sound-here : SoundNode (length (schemaOf s)) n (nodeAt (schemaOf s) n)
   sound-here = here s t n h .one .sound b
-
-  pub kind-at : AtMost 1 (nodeAt (schemaOf s) n .kind) (getD s (getD t (16 * n) 0 + 2) 0)
-  kind-at = let e = here s t n h .one .kind in record { is = sym e; most = omega (arith, sound-here .kind-most) }
 
   pub links-at : {r : ℕ} → r ≡ getD s (getD t (16 * n) 0 + 3) 0 → AtMost 8 (length (nodeAt (schemaOf s) n .successors)) r
   links-at e = let z = linked-at s t n h in record { is = e ∙ z; most = omega (arith, sound-here .few) }
@@ -127,16 +121,37 @@ module _ (s t : List ℕ) (n : ℕ) (h : NodeIn s t n) (b : Bytes s) where
       let w = rising-at n (length (schemaOf s)) (nodeAt (schemaOf s) n .successors) j (sound-here .rising) k in
       record { is = e ∙ sym z; above = omega (arith, w .0); below = omega (arith, w .1) }
 
-  pub variables-count : {c r : ℕ} → c ≡ getD s (getD t (16 * n) 0 + 3) 0 → r ≡ getD s (getD t (16 * n) 0 + 4 + c) 0 → AtMost 4 (length (nodeAt (schemaOf s) n .variables)) r
-  variables-count {c} {r} e k =
-      let v = here s t n h .one .varied in
-      let z : r ≡ length (nodeAt (schemaOf s) n .variables) = k ∙ ap (λ (c : ℕ). getD s (getD t (16 * n) 0 + 4 + c) 0) (e ∙ linked-at s t n h) ∙ sym v in
-      record { is = z; most = omega (arith, sound-here .few-variables) }
-
--- a variable, where the table tells that it begins
+-- how many ranks and variables a node has
 few-here : (s t : List ℕ) (n : ℕ) → NodeIn s t n → length (nodeAt (schemaOf s) n .variables) ≤ 4
 few-here s t n h = here s t n h .one .few-variables
 
+ranks-few : (x : Node) → length (x .successors) ≤ 8 → rankCount x ≤ 8
+unfolding rankCount
+ranks-few x h = go (eqb (x .kind) 1)
+  where
+    go : (b : Bool) → cond b (length (x .successors)) 0 ≤ 8
+    go true = h
+    go false = omega arith
+
+module _ (s t : List ℕ) (n : ℕ) (h : NodeIn s t n) where
+  shape-is : getD t (16 * n + 7) 0 ≡ rankCount (nodeAt (schemaOf s) n) + 16 * length (nodeAt (schemaOf s) n .variables)
+  unfolding shapeOf
+  shape-is = laid s t (h .table) .each n (h .below) .shape
+
+  few-ranks : rankCount (nodeAt (schemaOf s) n) ≤ 8
+  few-ranks = ranks-few (nodeAt (schemaOf s) n) (here s t n h .one .few-successors)
+
+  pub variables-count : AtMost 4 (length (nodeAt (schemaOf s) n .variables)) (getD t (16 * n + 7) 0 / 16)
+  variables-count =
+      let z : getD t (16 * n + 7) 0 / 16 ≡ length (nodeAt (schemaOf s) n .variables) = omega (arith, shape-is, few-ranks) in
+      record { is = z; most = omega (arith, few-here s t n h) }
+
+  pub ranks-count : AtMost 8 (rankCount (nodeAt (schemaOf s) n)) (getD t (16 * n + 7) 0 % 16)
+  ranks-count =
+      let z : getD t (16 * n + 7) 0 % 16 ≡ rankCount (nodeAt (schemaOf s) n) = omega (arith, shape-is, few-ranks) in
+      record { is = z; most = omega (arith, few-ranks) }
+
+-- a variable, where the table tells that it begins
 pub variable-here : (s t : List ℕ) (n k : ℕ) → NodeIn s t n → k < length (nodeAt (schemaOf s) n .variables)
     → (q : ℕ) × (variable s (getD t (16 * n + 1 + k) 0) ≡ got (getD (nodeAt (schemaOf s) n .variables) k noVariable) q)
 variable-here s t n k h l =
@@ -199,9 +214,6 @@ module _ (s t : List ℕ) (n k : ℕ) (h : NodeIn s t n) (l : k < length (nodeAt
   wide-at = omega (arith, one-here .end, one-here .inside, one-here .type)
 
   module _ (e : getD s (getD t (16 * n + 1 + k) 0) 0 ≡ 0) where
-    pub number-yes : true ≡ isNumber (getD (nodeAt (schemaOf s) n .variables) k noVariable)
-    number-yes = sym (eq-eqb (getD s (getD t (16 * n + 1 + k) 0) 0) 0 e) ∙ type-at
-
     pub number-inside : getD t (16 * n + 1 + k) 0 + 9 ≤ length s
     number-inside = rw (eq-eqb (getD s (getD t (16 * n + 1 + k) 0) 0) 0 e) at wide-at
 

@@ -24,8 +24,8 @@ use Rattle.fields.proofs.Back.{whole-back, mark-back, field-back, be1}
 use Rattle.fields.proofs.Runs.{ran, failed, run-answer, run-map, run-exit, run-refused, run-step}
 use Rattle.numbers.specs.Bits.{withAll}
 use Rattle.schema.specs.Schema.{Node, SH, SN, variable, variables, variablesOf, links, node, nodes, body, schema, schemaOf}
-use Rattle.schema.specs.Layout.{rankCount, span}
-use Rattle.schema.specs.Table.{maskCount, fillVariable, fillVariables, fillNode, fillNodes, tableOf, fillSets, Tables, tables, fillOne, fillAll, variableRead, linksRead, Accepted, Tabled, SetsIn, Room, RoomFor, VariableRoom, YieldsSchema, AtMost}
+use Rattle.schema.specs.Layout.{rankCount, span, shapeOf}
+use Rattle.schema.specs.Table.{maskCount, fillVariable, fillVariables, fillBody, fillNode, fillNodes, tableOf, fillSets, Tables, tables, fillOne, fillAll, variableRead, linksRead, Accepted, Tabled, SetsIn, Room, RoomFor, VariableRoom, YieldsSchema, AtMost}
 use Rattle.schema.specs.declared.Variable.{Variable}
 use Rattle.schema.specs.declared.Variable.the-variants.{Number, Listed}
 use Rattle.schema.specs.declared.VariableRead.{VariableRead}
@@ -33,7 +33,7 @@ use Rattle.schema.specs.declared.VariableRead.the-variants.{Number as Nu
 use Rattle.schema.specs.declared.LinksRead.{LinksRead}
 use Rattle.schema.specs.declared.LinksRead.the-variants.{Linked, NoLinks}
 use Rattle.schema.proofs.Reader.{knew-number, knew-listed, unknown, linking, unlinked}
-use Rattle.schema.proofs.Node.{links-back, variable-back, node-back}
+use Rattle.schema.proofs.Node.{links-back, variable-back, variables-back, node-back}
 use Rattle.schema.proofs.Accepted.{file-of, accepted-got}
 use Rattle.schema.proofs.Table.{variable-length, node-long, nodes-long, sets-long, sets-at}
 
@@ -121,17 +121,25 @@ module _ (s : List ℕ) (n k ranks from : ℕ) (t₀ t : List ℕ) (j at w m : �
 
 -- their number, then they
 module _ (s : List ℕ) (n ranks p : ℕ) (t : List ℕ) where
-  pub variables-of-bad : {i o : ℕ} → variablesOf s p ≡ bad i o → refused i o ≡ runOf (fillVariables n 0 (p + 1) ranks 0) (variablesOf s p) t
+  pub variables-of-bad : {i o : ℕ} → variablesOf s p ≡ bad i o → refused i o ≡ runOf (fillBody n (p + 1) ranks) (variablesOf s p) t
   variables-of-bad e = rw e
 
+  -- so many as were read
+  counted : (v q : ℕ) (g : Got (List Variable)) → variables s v q ≡ g
+      → runOf (fillVariables n 0 q ranks 0) g (set t (16 * n + 7) (ranks + 16 * v)) ≡ runOf (fillBody n q ranks) g t
+  unfolding fillBody shapeOf
+  counted v q (bad i o) e = refl
+  counted v q (got vs u) e = ap (λ (i : ℕ). did u (fillVariables n 0 q ranks 0 vs (set t (16 * n + 7) (ranks + 16 * i)))) (sym (variables-back s v q e .size))
+
   pub variables-of-ok : {f : Field} {v q : ℕ} {x : Run (List ℕ)} → f ≡ fieldOf (whole 1 s p) → f ≡ Value v q → v ≤ 4
-      → x ≡ runOf (fillVariables n 0 q ranks 0) (variables s v q) t → x ≡ runOf (fillVariables n 0 (p + 1) ranks 0) (variablesOf s p) t
+      → x ≡ runOf (fillVariables n 0 q ranks 0) (variables s v q) (set t (16 * n + 7) (ranks + 16 * v)) → x ≡ runOf (fillBody n (p + 1) ranks) (variablesOf s p) t
   unfolding variablesOf
   variables-of-ok {v = v} {q} e h l i =
       let w = whole-back 1 s p (took (whole 1 s p) e h) in
       i
-      ∙ ap (λ (q₁ : ℕ). runOf (fillVariables n 0 q₁ ranks 0) (variables s v q) t) (w .next)
-      ∙ ap (λ (g : Got (List Variable)). runOf (fillVariables n 0 (p + 1) ranks 0) g t) (sym (field-ok 1 6 (λ v. leb v 4) s p (λ v p. variables s v p) e h (le-leb v 4 l) refl))
+      ∙ counted v q (variables s v q) refl
+      ∙ ap (λ (q₁ : ℕ). runOf (fillBody n q₁ ranks) (variables s v q) t) (w .next)
+      ∙ ap (λ (g : Got (List Variable)). runOf (fillBody n (p + 1) ranks) g t) (sym (field-ok 1 6 (λ v. leb v 4) s p (λ v p. variables s v p) e h (le-leb v 4 l) refl))
 
 pub ruleset variables-values = (variables-of-bad, values)
 
@@ -173,7 +181,7 @@ node-same t after i x e = e ∙ length-set t i x
 pub node-ok : (s : List ℕ) (count own from : ℕ) (t u t₁ : List ℕ) {e₀ : Step} {p₁ : ℕ} {e₁ : Field} {kind p₂ : ℕ} {e₂ : LinksRead} {m c p₃ ranks : ℕ} (r : Step)
     → e₀ ≡ stepOf (mark SN s from) → e₀ ≡ Next p₁ → e₁ ≡ fieldOf (whole 1 s p₁) → e₁ ≡ Value kind p₂ → kind ≤ 1
     → e₂ ≡ linksRead (links s count own kind p₂) → e₂ ≡ Linked m c p₃ → AtMost 8 (cond (eqb kind 1) c 0) ranks
-    → outcome r t₁ ≡ runOf (fillVariables own 0 (p₃ + 1) ranks 0) (variablesOf s p₃) (set t (16 * own) (from % 65536))
+    → outcome r t₁ ≡ runOf (fillBody own (p₃ + 1) ranks) (variablesOf s p₃) (set t (16 * own) (from % 65536))
     → outcome r (tables t₁ (set u own m)) ≡ runOf (fillOne own from) (node s count own from) (tables t u)
 unfolding node fillOne fillNode rankCount short part field
 node-ok s count own from t u t₁ {p₁ = p₁} {kind = kind} {p₂} {m = m} {c} {p₃} {ranks} r h₀ g₀ h₁ g₁ k h₂ g₂ er run =
@@ -187,9 +195,9 @@ node-ok s count own from t u t₁ {p₁ = p₁} {kind = kind} {p₂} {m = m} {c}
     let q : p₃ + 1 ≡ from + (5 + length xs) = omega arith in
     let er₁ : ranks ≡ cond (eqb kind 1) (length xs) 0 = er .is ∙ ap (λ (i : ℕ). cond (eqb kind 1) i 0) (l .count) in
     rw (a .1, b, le-leb kind 1 k, l .read)
-    (run-map (fillVariables own 0 (p₃ + 1) ranks 0) (fillOne own from) (λ vs. record { kind = kind; successors = xs; variables = vs }) (variablesOf s p₃)
+    (run-map (fillBody own (p₃ + 1) ranks) (fillOne own from) (λ vs. record { kind = kind; successors = xs; variables = vs }) (variablesOf s p₃)
     (set t (16 * own) (from % 65536)) t₁ (tables t u) (tables t₁ (set u own m)) r run
-    (λ vs z. (λ i. tables ((z ∙ (λ j. fillVariables own 0 (q j) (er₁ j) 0 vs (set t (16 * own) (from % 65536)))) i) (set u own (l .set-is i)))))
+    (λ vs z. (λ i. tables ((z ∙ (λ j. fillBody own (q j) (er₁ j) vs (set t (16 * own) (from % 65536)))) i) (set u own (l .set-is i)))))
 
 -- ---- all nodes
 
@@ -350,9 +358,6 @@ room s m k h w =
 
 pub room-64 : (s : List ℕ) → Room s (replicate 1024 0) (replicate 64 0)
 room-64 s = room s 1024 64 (λ b. omega arith) (λ b. b)
-
-pub room-4 : (s : List ℕ) {count : ℕ} → count ≡ getD s 2 0 → count ≤ 4 → Room s (replicate 64 0) (replicate 4 0)
-room-4 s e h = room s 64 4 (λ b. omega arith) (λ b. omega arith)
 
 pub room-16 : (s : List ℕ) {count : ℕ} → count ≡ getD s 2 0 → count ≤ 16 → Room s (replicate 256 0) (replicate 16 0)
 room-16 s e h = room s 256 16 (λ b. omega arith) (λ b. omega arith)

@@ -10,8 +10,8 @@ use lib.ListN.{length, getD, set, replicate, length-set, length-replicate}
 use lib.Seq.{getD-set-same, getD-set-other}
 use Rattle.fields.specs.Shorts.{short}
 use Rattle.schema.specs.Schema.{Node, nodeAt, isNumber}
-use Rattle.schema.specs.Layout.{rankCount, span, spans, offsetOf, ruleLength, masksOf, maskSkip, spareOf, spareAt, NodeLaid}
-use Rattle.schema.specs.Table.{variableWidth, bodyOf, nodeWidth, successorSet, maskCount, fillVariable, fillVariables, fillNode, fillNodes, tableOf, fillSets}
+use Rattle.schema.specs.Layout.{rankCount, span, spans, offsetOf, ruleLength, masksOf, maskSkip, spareOf, spareAt, shapeOf, NodeLaid}
+use Rattle.schema.specs.Table.{variableWidth, bodyOf, nodeWidth, successorSet, maskCount, fillVariable, fillVariables, fillBody, fillNode, fillNodes, tableOf, fillSets}
 use Rattle.schema.specs.declared.Variable.{Variable}
 use Rattle.schema.specs.declared.Variable.the-variants.{Number, Listed}
 use Rattle.schema.proofs.Node.{variablePlace}
@@ -32,9 +32,13 @@ unfolding fillVariables
 variables-long n k p w m [] t = simp length-set
 variables-long n k p w m (v ∷ vs) t = variables-long n (k + 1) (p + variableWidth v) (w + span v) (m + maskCount v) vs (fillVariable n k p w v t) ∙ variable-long n k p w v t
 
+body-long : (n p w : ℕ) (vs : List Variable) (t : List ℕ) → length (fillBody n p w vs t) ≡ length t
+unfolding fillBody
+body-long n p w vs t = variables-long n 0 p w 0 vs (set t (16 * n + 7) (shapeOf w (length vs))) ∙ length-set t (16 * n + 7) (shapeOf w (length vs))
+
 pub node-long : (n p : ℕ) (x : Node) (t : List ℕ) → length (fillNode n p x t) ≡ length t
 unfolding fillNode
-node-long n p x t = variables-long n 0 (p + bodyOf x) (rankCount x) 0 (x .variables) (set t (16 * n) (short p)) ∙ length-set t (16 * n) (short p)
+node-long n p x t = body-long n (p + bodyOf x) (rankCount x) (x .variables) (set t (16 * n) (short p)) ∙ length-set t (16 * n) (short p)
 
 pub nodes-long : (n p : ℕ) (g : List Node) (t : List ℕ) → length (fillNodes n p g t) ≡ length t
 unfolding fillNodes
@@ -55,6 +59,10 @@ below h = record { offset = λ j b l e. omega arith; skip = λ j b l e. omega ar
 
 above : {n k i : ℕ} → 16 * (n + 1) ≤ i → Apart n k i
 above h = record { offset = λ j b l e. omega arith; skip = λ j b l e. omega arith; spare = λ j b l e. omega arith }
+
+-- that of the shape
+shape-apart : (n : ℕ) → Apart n 0 (16 * n + 7)
+shape-apart n = record { offset = λ j b l e. omega arith; skip = λ j b l e. omega arith; spare = λ j b l e. omega arith }
 
 -- the slots of the variable before
 offset-before : (n k : ℕ) → k < 4 → Apart n (k + 1) (16 * n + 1 + k)
@@ -87,6 +95,12 @@ variables-other n k p w m (v ∷ vs) t i h a =
     variables-other n (k + 1) (p + variableWidth v) (w + span v) (m + maskCount v) vs (fillVariable n k p w v t) i (omega arith)
     (record { offset = λ j b. a .offset j (omega arith); skip = λ j b. a .skip j (omega arith); spare = λ j b. a .spare j (omega arith) })
     ∙ variable-other n k p w v t i (a .offset k (omega arith) (omega arith)) (a .skip k (omega arith) (omega arith)) (a .spare k (omega arith) (omega arith))
+
+-- and a slot that none of them has a part in, nor the shape
+body-other : (n p w : ℕ) (vs : List Variable) (t : List ℕ) (i : ℕ) → length vs ≤ 4 → Apart n 0 i → (i ≡ 16 * n + 7 → ⊥) → getD (fillBody n p w vs t) i 0 ≡ getD t i 0
+unfolding fillBody
+body-other n p w vs t i h a s =
+    variables-other n 0 p w 0 vs (set t (16 * n + 7) (shapeOf w (length vs))) i (omega arith) a ∙ getD-set-other t (16 * n + 7) i (shapeOf w (length vs)) 0 s
 
 -- ---- what one variable's slots hold
 
@@ -208,21 +222,28 @@ record Free (n : ℕ) (t : List ℕ) : Type 0 where
   zeros : (i : ℕ) → 16 * n ≤ i → getD t i 0 ≡ 0
 
 row : (n p : ℕ) (x : Node) (t : List ℕ) → length (x .variables) ≤ 4 → 16 * (n + 1) ≤ length t → Free n t → Row x n p (fillNode n p x t)
-unfolding fillNode ruleLength offsetOf
+unfolding fillNode fillBody ruleLength offsetOf
 row n p x t f l b =
-    let t₁ = set t (16 * n) (short p) in
-    let l₁ : 16 * (n + 1) ≤ length t₁ = omega (arith, length-set t (16 * n) (short p)) in
     let vs = x .variables in
     let q = p + bodyOf x in
     let w = rankCount x in
-    let free : (i : ℕ) → 16 * n < i → getD t₁ i 0 ≡ 0 = λ i h. getD-set-other t (16 * n) i (short p) 0 (λ e. omega arith) ∙ b .zeros i (omega arith) in
+    let t₀ = set t (16 * n) (short p) in
+    let l₀ : 16 * (n + 1) ≤ length t₀ = omega (arith, length-set t (16 * n) (short p)) in
+    let t₁ = set t₀ (16 * n + 7) (shapeOf w (length vs)) in
+    let l₁ : 16 * (n + 1) ≤ length t₁ = omega (arith, length-set t₀ (16 * n + 7) (shapeOf w (length vs))) in
+    let free : (i : ℕ) → 16 * n + 7 < i → getD t₁ i 0 ≡ 0 =
+    λ i h. getD-set-other t₀ (16 * n + 7) i (shapeOf w (length vs)) 0 (λ e. omega arith) ∙ getD-set-other t (16 * n) i (short p) 0 (λ e. omega arith) ∙ b .zeros i (omega arith) in
     let b₁ : Blank n 0 t₁ = record { skip = λ j h k. free (16 * n + 8 + j) (omega arith); spare = λ j h k. free (16 * n + 12 + j) (omega arith) } in
     record {
-      begins = variables-other n 0 q w 0 vs t₁ (16 * n) (omega arith) (below (omega arith)) ∙ getD-set-same t (16 * n) (short p) 0 (omega arith);
+      begins =
+          variables-other n 0 q w 0 vs t₁ (16 * n) (omega arith) (below (omega arith))
+          ∙ getD-set-other t₀ (16 * n + 7) (16 * n) (shapeOf w (length vs)) 0 (λ e. omega arith)
+          ∙ getD-set-same t (16 * n) (short p) 0 (omega arith);
       variable = λ k h. ap (λ (i : ℕ). getD (fillVariables n 0 q w 0 vs t₁) (16 * n + 1 + i) 0) (sym (zero-add k)) ∙ offset-at n 0 q w 0 vs t₁ k h (omega arith) l₁;
       laid = record {
         length-is = length-at n 0 q w 0 vs t₁ l₁;
         masks = masks-at n 0 q w 0 vs t₁ l₁ ∙ zero-add (masksOf vs);
+        shape = variables-other n 0 q w 0 vs t₁ (16 * n + 7) (omega arith) (shape-apart n) ∙ getD-set-same t₀ (16 * n + 7) (shapeOf w (length vs)) 0 (omega arith);
         skip = λ k h. ap (λ (i : ℕ). getD (fillVariables n 0 q w 0 vs t₁) (16 * n + 8 + i) 0) (sym (zero-add k)) ∙ mask-at n 0 q w 0 vs t₁ k (omega arith) (omega arith) l₁ b₁ .0;
         spare = λ k h. ap (λ (i : ℕ). getD (fillVariables n 0 q w 0 vs t₁) (16 * n + 12 + i) 0) (sym (zero-add k)) ∙ mask-at n 0 q w 0 vs t₁ k (omega arith) (omega arith) l₁ b₁ .1;
       };
@@ -232,7 +253,7 @@ free-next : (n p : ℕ) (x : Node) (t : List ℕ) → length (x .variables) ≤ 
 unfolding fillNode
 free-next n p x t f b = record {
   zeros = λ i h.
-      variables-other n 0 (p + bodyOf x) (rankCount x) 0 (x .variables) (set t (16 * n) (short p)) i (omega arith) (above h)
+      body-other n (p + bodyOf x) (rankCount x) (x .variables) (set t (16 * n) (short p)) i f (above h) (λ e. omega arith)
       ∙ getD-set-other t (16 * n) i (short p) 0 (λ e. omega arith)
       ∙ b .zeros i (omega arith);
 }
@@ -255,7 +276,7 @@ unfolding fillNodes fillNode
 nodes-other n p [] t i f h = refl
 nodes-other n p (x ∷ g) t i f h =
     nodes-other (n + 1) (p + nodeWidth x) g (fillNode n p x t) i (few-rest x g f) (omega arith)
-    ∙ variables-other n 0 (p + bodyOf x) (rankCount x) 0 (x .variables) (set t (16 * n) (short p)) i (omega (arith, few-first x g f)) (below (omega arith))
+    ∙ body-other n (p + bodyOf x) (rankCount x) (x .variables) (set t (16 * n) (short p)) i (few-first x g f) (below (omega arith)) (λ e. omega arith)
     ∙ getD-set-other t (16 * n) i (short p) 0 (λ e. omega arith)
 
 row-same : (x : Node) (n p : ℕ) (t t₁ : List ℕ) → length (x .variables) ≤ 4 → ((i : ℕ) → i < 16 * (n + 1) → getD t₁ i 0 ≡ getD t i 0) → Row x n p t → Row x n p t₁
@@ -265,6 +286,7 @@ row-same x n p t t₁ f e r = record {
   laid = record {
     length-is = e (16 * n + 5) (omega arith) ∙ r .laid .length-is;
     masks = e (16 * n + 6) (omega arith) ∙ r .laid .masks;
+    shape = e (16 * n + 7) (omega arith) ∙ r .laid .shape;
     skip = λ k h. e (16 * n + 8 + k) (omega arith) ∙ r .laid .skip k h;
     spare = λ k h. e (16 * n + 12 + k) (omega arith) ∙ r .laid .spare k h;
   };

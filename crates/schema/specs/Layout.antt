@@ -69,16 +69,24 @@ lengthSlot n = 16 * n + 5
 abbrev pub masksSlot : ℕ → ℕ
 masksSlot n = 16 * n + 6
 
+abbrev pub shapeSlot : ℕ → ℕ
+shapeSlot n = 16 * n + 7
+
 abbrev pub skipSlot : ℕ → ℕ → ℕ
 skipSlot n k = 16 * n + 8 + k
 
 abbrev pub spareSlot : ℕ → ℕ → ℕ
 spareSlot n k = 16 * n + 12 + k
 
+-- how many ranks and conditions a PN has, in one number
+unfoldable pub shapeOf : ℕ → ℕ → ℕ
+shapeOf ranks variables = ranks + 16 * variables
+
 -- what the table t has of the PN of node n, which is x
 pub record NodeLaid (x : Node) (n : ℕ) (t : List ℕ) : Type 0 where
   pub length-is : getD t (lengthSlot n) 0 ≡ ruleLength x
   pub masks : getD t (masksSlot n) 0 ≡ masksOf (x .variables)
+  pub shape : getD t (shapeSlot n) 0 ≡ shapeOf (rankCount x) (length (x .variables))
   pub skip : (k : ℕ) → k < 4 → getD t (skipSlot n k) 0 ≡ maskSkip (x .variables) (rankCount x) k
   pub spare : (k : ℕ) → k < 4 → getD t (spareSlot n k) 0 ≡ spareAt (x .variables) k
 

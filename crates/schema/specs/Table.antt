@@ -9,7 +9,7 @@ use Rattle.fields.specs.Shorts.{short}
 use Rattle.fields.specs.declared.Step.{Step}
 use Rattle.numbers.specs.Bits.{withAll}
 use Rattle.schema.specs.Schema.{Node, mostNodes, schema, schemaOf, nodeAt}
-use Rattle.schema.specs.Layout.{rankCount, span, lengthSlot, masksSlot, skipSlot, spareSlot}
+use Rattle.schema.specs.Layout.{rankCount, span, lengthSlot, masksSlot, shapeSlot, skipSlot, spareSlot, shapeOf}
 use Rattle.schema.specs.declared.Variable.{Variable}
 use Rattle.schema.specs.declared.Variable.the-variants.{Number, Listed}
 use Rattle.schema.specs.declared.VariableRead.{VariableRead}
@@ -56,9 +56,13 @@ unfoldable pub fillVariables : ℕ → ℕ → ℕ → ℕ → ℕ → List Vari
 fillVariables n k p w m [] t = set (set t (lengthSlot n) (3 + w)) (masksSlot n) m
 fillVariables n k p w m (v ∷ vs) t = fillVariables n (k + 1) (p + variableWidth v) (w + span v) (m + maskCount v) vs (fillVariable n k p w v t)
 
+-- all of them, the first of which begins at p; its PN has w ranks
+unfoldable pub fillBody : ℕ → ℕ → ℕ → List Variable → List ℕ → List ℕ
+fillBody n p w vs t = fillVariables n 0 p w 0 vs (set t (shapeSlot n) (shapeOf w (length vs)))
+
 -- node n, whose record begins at p
 unfoldable pub fillNode : ℕ → ℕ → Node → List ℕ → List ℕ
-fillNode n p x t = fillVariables n 0 (p + bodyOf x) (rankCount x) 0 (x .variables) (set t (recordSlot n) (short p))
+fillNode n p x t = fillBody n (p + bodyOf x) (rankCount x) (x .variables) (set t (recordSlot n) (short p))
 
 -- the nodes from n on
 unfoldable pub fillNodes : ℕ → ℕ → List Node → List ℕ → List ℕ
@@ -122,6 +126,11 @@ pub record YieldsSchema (s : List ℕ) (r : Step) (t u : List ℕ) : Type 0 wher
   pub answer : r ≡ stepOf (schema s)
   pub tabled : Accepted s → Tabled s t
   pub sets : Accepted s → SetsIn s u
+
+-- t is the table of the file s, which has so many nodes
+pub record SchemaIn (s t : List ℕ) (count : ℕ) : Type 0 where
+  pub table : Tabled s t
+  pub counted : count ≡ length (schemaOf s)
 
 -- t is the table of the file s, and n one of its nodes
 pub record NodeIn (s t : List ℕ) (n : ℕ) : Type 0 where

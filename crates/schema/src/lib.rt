@@ -6,7 +6,7 @@ ghost use lib.Dec.{eqb};
 ghost use Rattle.fields.specs.Runs.{outcome, runOf};
 ghost use Rattle.schema.specs.Schema.{mostNodes, number, listed, variable, variables, variablesOf, successors, links, node, nodes, body, schema};
 ghost use Rattle.schema.specs.declared.Variable.the-variants.{Listed};
-ghost use Rattle.schema.specs.Table.{fillVariable, fillVariables, tables, fillOne, fillAll, variableRead, linksRead, countIn, AtMost, Room, RoomFor, VariableRoom, YieldsSchema};
+ghost use Rattle.schema.specs.Table.{fillVariable, fillVariables, fillBody, tables, fillOne, fillAll, variableRead, linksRead, countIn, AtMost, Room, RoomFor, VariableRoom, YieldsSchema};
 use fields::Field;
 use fields::SignedField;
 use fields::Step;
@@ -25,8 +25,8 @@ pub const MOST_SUCCESSORS: usize = SUCCESSORS as usize;
 
 pub const MOST_VARIABLES: usize = VARIABLES as usize;
 
-// The slots of a node in the table: where its record and its variables begin, the bytes of its PN, how many masks that has, one
-// that is free, then for each variable the skip of its mask and the bits that the mask has to spare.
+// The slots of a node in the table: where its record and its variables begin, the bytes of its PN, how many masks that has, its
+// ranks and, sixteenfold, its variables, then for each variable the skip of its mask and the bits that the mask has to spare.
 pub const NODE_SLOTS: usize = 16;
 
 // The bytes of a condition.
@@ -188,7 +188,7 @@ fn read_variables(
 fn read_variables_of(s: &[u8], own: usize, ranks: usize, at: usize, table: &mut [u16]) -> Step
     requires { ⌜ VariableRoom own 4 (now table) ⌝ }
     requires { ⌜ ranks ≤ 8 ⌝ }
-    ensures { λ r. ⌜ outcome r (now (table .exit)) ≡ runOf (fillVariables own 0 (at + 1) ranks 0) (variablesOf (now (s .entry)) at) (now (table .entry)) ⌝ }
+    ensures { λ r. ⌜ outcome r (now (table .exit)) ≡ runOf (fillBody own (at + 1) ranks) (variablesOf (now (s .entry)) at) (now (table .entry)) ⌝ }
 {
     match reading::read_u8(s, at) {
         Field::Cut { number, offset } => Step::Bad { number, offset },
@@ -199,7 +199,9 @@ fn read_variables_of(s: &[u8], own: usize, ranks: usize, at: usize, table: &mut 
                     offset: at,
                 };
             }
-            read_variables(s, own, value as usize, ranks, next, table)
+            let count = value as usize;
+            table[NODE_SLOTS * own + 7] = (ranks + 16 * count) as u16;
+            read_variables(s, own, count, ranks, next, table)
         }
     }
 }

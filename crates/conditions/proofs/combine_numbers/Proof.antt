@@ -1,10 +1,10 @@
 -- The offsets from here on are left for each of the four.
 -- Rests on the laws of a turn, in Numbers.
 use Prim.Native.Nat.{_-_}
+use Rattle.fields.proofs.Shorts.{element-wide}
 use Rattle.schema.specs.Schema.{schemaOf}
 use Rattle.policies.specs.Policies.{range}
 use Rattle.conditions.proofs.Numbers.{Four, four-below, four-number, four-init, four-inside, first-room, next-room, next-fits, four-step, four-exit}
-use Rattle.conditions.proofs.Shorts.{short-wide}
 use borrow.Author.Needs.{needs}
 use Rattle.conditions.proofs.combine_numbers.Statement.{statement}
 use Rattle.conditions.proofs.combine_numbers.Tie as tie
@@ -40,7 +40,7 @@ shared-slice-read-offset : tie.Need-shared-slice-read-offset Inv-loop μ-loop
 shared-slice-read-offset c = search needs
 
 cast-offset : tie.Need-cast-offset Inv-loop μ-loop
-cast-offset c = search short-wide
+cast-offset c = search element-wide
 
 sub-ranks : tie.Need-sub-ranks Inv-loop μ-loop
 sub-ranks c = search four-inside

@@ -1,7 +1,7 @@
 -- The conditions at the offsets are those of the noted policies.
 -- Rests on what the rows tell, in Row.
+use Rattle.fields.proofs.Shorts.{element-wide}
 use Rattle.conditions.proofs.Row.{number-bytes, listed-bytes, number-admitted, listed-admitted}
-use Rattle.conditions.proofs.Shorts.{short-wide}
 use borrow.Author.Needs.{needs}
 use Rattle.conditions.proofs.is_admitted.Statement.{statement}
 use Rattle.conditions.proofs.is_admitted.Tie as tie
@@ -16,7 +16,7 @@ shared-slice-read-count : tie.Need-shared-slice-read-count
 shared-slice-read-count c = search needs
 
 cast-count : tie.Need-cast-count
-cast-count c = search short-wide
+cast-count c = search element-wide
 
 add-first : tie.Need-add-first
 add-first c = search needs

@@ -1,9 +1,10 @@
 -- A node without variables has them all; both other ways find the values under the conditions of the noted policies.
 -- Rests on the laws of a node's values, in Least, on what the test tells, in Numbers, and on what the rows tell, in Row.
+use Rattle.fields.proofs.Shorts.{element-wide}
+use Rattle.policies.proofs.Row.{row-rules}
 use Rattle.conditions.proofs.Least.{least-empty}
 use Rattle.conditions.proofs.Numbers.{four-told}
-use Rattle.conditions.proofs.Row.{row-rules, row-least}
-use Rattle.conditions.proofs.Shorts.{short-wide}
+use Rattle.conditions.proofs.Row.{row-least}
 use borrow.Author.Needs.{needs}
 use Rattle.conditions.proofs.least_values.Statement.{statement}
 use Rattle.conditions.proofs.least_values.Tie as tie
@@ -24,7 +25,7 @@ shared-slice-read-count : tie.Need-shared-slice-read-count
 shared-slice-read-count c = search needs
 
 cast-count : tie.Need-cast-count
-cast-count c = search short-wide
+cast-count c = search element-wide
 
 add-first : tie.Need-add-first
 add-first c = search needs

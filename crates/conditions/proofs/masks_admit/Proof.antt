@@ -1,9 +1,9 @@
 -- The offsets from here on are left to ask.
 -- Rests on the laws of a turn, in Admitting.
 use Prim.Native.Nat.{_-_}
+use Rattle.fields.proofs.Shorts.{element-wide}
+use Rattle.policies.proofs.Offsets.{stretch-inside, stretch-room}
 use Rattle.conditions.proofs.Admitting.{Admitting, maskOk, admitting-init, masks-no, masks-step, masks-exit}
-use Rattle.conditions.proofs.Narrowing.{stretch-inside, stretch-room}
-use Rattle.conditions.proofs.Shorts.{short-wide}
 use borrow.Author.Needs.{needs}
 use Rattle.conditions.proofs.masks_admit.Statement.{statement}
 use Rattle.conditions.proofs.masks_admit.Tie as tie
@@ -24,7 +24,7 @@ shared-slice-read-offset : tie.Need-shared-slice-read-offset Inv-loop μ-loop
 shared-slice-read-offset c = search needs
 
 cast-offset : tie.Need-cast-offset Inv-loop μ-loop
-cast-offset c = search short-wide
+cast-offset c = search element-wide
 
 sub-mask-admits : tie.Need-sub-mask-admits Inv-loop μ-loop
 sub-mask-admits c = search stretch-inside

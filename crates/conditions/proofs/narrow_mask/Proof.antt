@@ -1,11 +1,12 @@
 -- The offsets from here on are left.
 -- Rests on the laws of a turn, in Narrowing.
 use Prim.Native.Nat.{_-_}
+use Rattle.fields.proofs.Shorts.{element-wide}
 use Rattle.numbers.specs.Bits.{ones}
 use Rattle.policies.specs.Policies.{mask}
+use Rattle.policies.proofs.Offsets.{stretch-inside, stretch-room}
 use Rattle.conditions.specs.Rules.{maskAt}
-use Rattle.conditions.proofs.Narrowing.{Narrowing, mask-init, stretch-inside, stretch-room, mask-step, mask-exit}
-use Rattle.conditions.proofs.Shorts.{short-wide}
+use Rattle.conditions.proofs.Narrowing.{Narrowing, mask-init, mask-step, mask-exit}
 use borrow.Author.Needs.{needs}
 use Rattle.conditions.proofs.narrow_mask.Statement.{statement}
 use Rattle.conditions.proofs.narrow_mask.Tie as tie
@@ -29,7 +30,7 @@ shared-slice-read-offset : tie.Need-shared-slice-read-offset Inv-loop μ-loop
 shared-slice-read-offset c = search needs
 
 cast-offset : tie.Need-cast-offset Inv-loop μ-loop
-cast-offset c = search short-wide
+cast-offset c = search element-wide
 
 sub-u32-at : tie.Need-sub-u32-at Inv-loop μ-loop
 sub-u32-at c = search stretch-inside

@@ -1,10 +1,11 @@
 -- The offsets from here on are left.
 -- Rests on the laws of a turn, in Narrowing.
 use Prim.Native.Nat.{_-_}
+use Rattle.fields.proofs.Shorts.{element-wide}
 use Rattle.policies.specs.Policies.{range}
+use Rattle.policies.proofs.Offsets.{stretch-inside, stretch-room}
 use Rattle.conditions.specs.Rules.{rangeAt}
-use Rattle.conditions.proofs.Narrowing.{Narrowing, narrowing-init, stretch-inside, stretch-room, range-step, range-exit}
-use Rattle.conditions.proofs.Shorts.{short-wide}
+use Rattle.conditions.proofs.Narrowing.{Narrowing, narrowing-init, range-step, range-exit}
 use borrow.Author.Needs.{needs}
 use Rattle.conditions.proofs.narrow_range.Statement.{statement}
 use Rattle.conditions.proofs.narrow_range.Tie as tie
@@ -25,7 +26,7 @@ shared-slice-read-offset : tie.Need-shared-slice-read-offset Inv-loop μ-loop
 shared-slice-read-offset c = search needs
 
 cast-offset : tie.Need-cast-offset Inv-loop μ-loop
-cast-offset c = search short-wide
+cast-offset c = search element-wide
 
 sub-narrow-at : tie.Need-sub-narrow-at Inv-loop μ-loop
 sub-narrow-at c = search stretch-inside

@@ -3,9 +3,9 @@
 use Prim.Native.Nat.{_-_}
 use mir.Syntax.{w32}
 use mir.Val.{toZ}
+use Rattle.fields.proofs.Shorts.{element-wide}
+use Rattle.policies.proofs.Offsets.{stretch-inside, stretch-room}
 use Rattle.conditions.proofs.Admitting.{Admitting, rangeOk, admitting-init, ranges-no, ranges-step, ranges-exit}
-use Rattle.conditions.proofs.Narrowing.{stretch-inside, stretch-room}
-use Rattle.conditions.proofs.Shorts.{short-wide}
 use borrow.Author.Needs.{needs}
 use Rattle.conditions.proofs.ranges_admit.Statement.{statement}
 use Rattle.conditions.proofs.ranges_admit.Tie as tie
@@ -26,7 +26,7 @@ shared-slice-read-offset : tie.Need-shared-slice-read-offset Inv-loop μ-loop
 shared-slice-read-offset c = search needs
 
 cast-offset : tie.Need-cast-offset Inv-loop μ-loop
-cast-offset c = search short-wide
+cast-offset c = search element-wide
 
 sub-range-admits : tie.Need-sub-range-admits Inv-loop μ-loop
 sub-range-admits c = search stretch-inside

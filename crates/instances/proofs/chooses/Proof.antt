@@ -1,21 +1,15 @@
--- Each return is one case of the kind.
--- Rests on what the schema's accessors answer.
+-- A node chooses where a PN of it has ranks.
+-- Rests on chooses-ranked.
 use borrow.Author.Needs.{needs}
-use Rattle.instances.proofs.Node.{chooses-by, chooses-not}
+use Rattle.instances.proofs.Node.{chooses-ranked}
 use Rattle.instances.proofs.chooses.Statement.{statement}
 use Rattle.instances.proofs.chooses.Tie as tie
 
-kind-of-requires : tie.Need-kind-of-requires
-kind-of-requires c κs = search needs
-
-successor-count-requires : tie.Need-successor-count-requires
-successor-count-requires c κs = search needs
+rank-count-requires : tie.Need-rank-count-requires
+rank-count-requires c κs = search needs
 
 returns : tie.Need-returns
-returns c = search chooses-by
-
-returns-2 : tie.Need-returns-2
-returns-2 c = search chooses-not
+returns c = search chooses-ranked
 
 pub chooses-spec : {M : Type 1} → statement M
-chooses-spec = tie.close (tie.spec kind-of-requires successor-count-requires returns returns-2)
+chooses-spec = tie.close (tie.spec rank-count-requires returns)

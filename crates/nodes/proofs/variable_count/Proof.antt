@@ -1,44 +1,25 @@
--- The number of variables is the byte after the successors.
+-- The table has ranks and variables in one number.
 -- Rests on variables-count.
-use native.Mathlib.Omega.{arith}
-use Rattle.fields.proofs.Shorts.{element-wide}
-use Rattle.schema.proofs.Access.{node-small, node-room, node-inside, linked-inside, variables-count}
 use borrow.Author.Needs.{needs}
+use Rattle.fields.proofs.Shorts.{element-wide}
+use Rattle.schema.proofs.Access.{variables-count}
 use Rattle.nodes.proofs.variable_count.Statement.{statement}
 use Rattle.nodes.proofs.variable_count.Tie as tie
 
-mul-at : tie.Need-mul-at
-mul-at c = omega (arith, node-small)
+mul-result : tie.Need-mul-result
+mul-result c = search needs
 
-mul-at-2 : tie.Need-mul-at-2
-mul-at-2 c = omega (arith, node-small)
+add-result : tie.Need-add-result
+add-result c = search needs
 
-shared-slice-read-at : tie.Need-shared-slice-read-at
-shared-slice-read-at c = omega (arith, node-room)
+mul-result-2 : tie.Need-mul-result-2
+mul-result-2 c = search needs
 
-cast-at : tie.Need-cast-at
-cast-at c = search element-wide
+shared-slice-read-result : tie.Need-shared-slice-read-result
+shared-slice-read-result c = search needs
 
-add-wide : tie.Need-add-wide
-add-wide c = omega (arith, node-inside _ _ _ (c .before .before .before .pre))
-
-shared-slice-read-wide : tie.Need-shared-slice-read-wide
-shared-slice-read-wide c = omega (arith, node-inside _ _ _ (c .before .before .before .before .pre))
-
-wide-requires : tie.Need-wide-requires
-wide-requires c κs = search needs
-
-add-wide-2 : tie.Need-add-wide-2
-add-wide-2 c = omega (arith, linked-inside _ _ _ (c .before .before .before .before .before .pre) (c .wide .ensures))
-
-add-wide-3 : tie.Need-add-wide-3
-add-wide-3 c = omega (arith, linked-inside _ _ _ (c .before .before .before .before .before .pre) (c .wide .ensures))
-
-shared-slice-read-wide-2 : tie.Need-shared-slice-read-wide-2
-shared-slice-read-wide-2 c = omega (arith, linked-inside _ _ _ (c .before .before .before .before .before .before .pre) (c .before .wide .ensures))
-
-wide-requires-2 : tie.Need-wide-requires-2
-wide-requires-2 c κs = search needs
+cast-result : tie.Need-cast-result
+cast-result c = search element-wide
 
 returns : tie.Need-returns
 returns c = search variables-count
@@ -46,16 +27,4 @@ returns c = search variables-count
 pub variable-count-spec : {M : Type 1} → statement M
 variable-count-spec =
     tie.close
-    (tie.spec
-    mul-at
-    mul-at-2
-    shared-slice-read-at
-    cast-at
-    add-wide
-    shared-slice-read-wide
-    wide-requires
-    add-wide-2
-    add-wide-3
-    shared-slice-read-wide-2
-    wide-requires-2
-    returns)
+    (tie.spec mul-result add-result mul-result-2 shared-slice-read-result cast-result returns)

@@ -1,100 +1,59 @@
--- What is left to look at equals the whole.
--- Rests on the laws of the loop over the masks.
+-- A sum is 0 where each part is.
+-- Rests on masks-none.
 use borrow.Author.Needs.{needs}
-use Rattle.fields.proofs.Shorts.{element-wide}
-use Rattle.policy_reader.proofs.Body.{Looked, masks-init, mask-there, mask-fits, mask-spare, masks-bad, masks-step, masks-exit}
+use Rattle.policy_reader.proofs.Body.{masks-none}
 use Rattle.policy_reader.proofs.masks_good.Statement.{statement}
 use Rattle.policy_reader.proofs.masks_good.Tie as tie
 
-abbrev Inv-loop : tie.InvT-loop
-Inv-loop table n b from k₀ k = Looked table b n from k
+excess-requires : tie.Need-excess-requires
+excess-requires c κs = search needs
 
-abbrev μ-loop : tie.MeasureT-loop
-μ-loop table n b from k₀ k = k
+cast-w : tie.Need-cast-w
+cast-w c = search needs
 
-loop-holds : tie.Need-loop-holds Inv-loop μ-loop
-loop-holds c = search masks-init
+excess-requires-2 : tie.Need-excess-requires-2
+excess-requires-2 c κs = search needs
 
-sub-k : tie.Need-sub-k Inv-loop μ-loop
-sub-k c = search needs
+cast-x : tie.Need-cast-x
+cast-x c = search needs
 
-mul-skip : tie.Need-mul-skip Inv-loop μ-loop
-mul-skip c = search needs
+excess-requires-3 : tie.Need-excess-requires-3
+excess-requires-3 c κs = search needs
 
-add-skip : tie.Need-add-skip Inv-loop μ-loop
-add-skip c = search needs
+cast-y : tie.Need-cast-y
+cast-y c = search needs
 
-add-skip-2 : tie.Need-add-skip-2 Inv-loop μ-loop
-add-skip-2 c = search needs
+excess-requires-4 : tie.Need-excess-requires-4
+excess-requires-4 c κs = search needs
 
-mul-skip-2 : tie.Need-mul-skip-2 Inv-loop μ-loop
-mul-skip-2 c = search needs
+cast-z : tie.Need-cast-z
+cast-z c = search needs
 
-shared-slice-read-skip : tie.Need-shared-slice-read-skip Inv-loop μ-loop
-shared-slice-read-skip c = search needs
+add-result : tie.Need-add-result
+add-result c = search needs
 
-cast-skip : tie.Need-cast-skip Inv-loop μ-loop
-cast-skip c = search element-wide
+add-result-2 : tie.Need-add-result-2
+add-result-2 c = search needs
 
-mul-spare : tie.Need-mul-spare Inv-loop μ-loop
-mul-spare c = search needs
+add-result-3 : tie.Need-add-result-3
+add-result-3 c = search needs
 
-add-spare : tie.Need-add-spare Inv-loop μ-loop
-add-spare c = search needs
-
-add-spare-2 : tie.Need-add-spare-2 Inv-loop μ-loop
-add-spare-2 c = search needs
-
-mul-spare-2 : tie.Need-mul-spare-2 Inv-loop μ-loop
-mul-spare-2 c = search needs
-
-shared-slice-read-spare : tie.Need-shared-slice-read-spare Inv-loop μ-loop
-shared-slice-read-spare c = search needs
-
-add-u32-at : tie.Need-add-u32-at Inv-loop μ-loop
-add-u32-at c = search mask-fits
-
-u32-at-requires : tie.Need-u32-at-requires Inv-loop μ-loop
-u32-at-requires c κs = search mask-there
-
-spares-requires : tie.Need-spares-requires Inv-loop μ-loop
-spares-requires c κs = search mask-spare
-
-loop-less : tie.Need-loop-less Inv-loop μ-loop
-loop-less c = search needs
-
-loop-again : tie.Need-loop-again Inv-loop μ-loop
-loop-again c = search masks-step
-
-returns : tie.Need-returns Inv-loop μ-loop
-returns c = search masks-bad
-
-returns-2 : tie.Need-returns-2 Inv-loop μ-loop
-returns-2 c = search masks-exit
+returns : tie.Need-returns
+returns c = search masks-none
 
 pub masks-good-spec : {M : Type 1} → statement M
 masks-good-spec =
     tie.close
     (tie.spec
-    Inv-loop
-    μ-loop
-    loop-holds
-    sub-k
-    mul-skip
-    add-skip
-    add-skip-2
-    mul-skip-2
-    shared-slice-read-skip
-    cast-skip
-    mul-spare
-    add-spare
-    add-spare-2
-    mul-spare-2
-    shared-slice-read-spare
-    add-u32-at
-    u32-at-requires
-    spares-requires
-    loop-less
-    loop-again
-    returns
-    returns-2)
+    excess-requires
+    cast-w
+    excess-requires-2
+    cast-x
+    excess-requires-3
+    cast-y
+    excess-requires-4
+    cast-z
+    add-result
+    add-result-2
+    add-result-3
+    returns)

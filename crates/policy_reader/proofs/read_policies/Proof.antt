@@ -51,7 +51,7 @@ use Rattle.fields.proofs.Step.Laws as S′
 use Rattle.schema.specs.Schema.{Node, schemaOf}
 use Rattle.policies.specs.Policies.{policies}
 use Rattle.policies.specs.Pass.{inForce}
-use Rattle.policies.specs.Index.{SchemaIn}
+use Rattle.schema.specs.Table.{SchemaIn}
 use Rattle.policies.specs.Rows.{notePolicies, RowsRoom}
 use Rattle.policy_reader.specs.Runs.{Ready, Leaves, Turned, endOf}
 use Rattle.policy_reader.specs.declared.Turn.{Turn}

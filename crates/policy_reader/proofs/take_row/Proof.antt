@@ -17,8 +17,8 @@ abbrev μ-loop : tie.MeasureT-loop
 loop-holds : tie.Need-loop-holds Inv-loop μ-loop
 loop-holds c = search row-init
 
-is-bare-requires : tie.Need-is-bare-requires Inv-loop μ-loop
-is-bare-requires c κs = (search row-shape, search needs)
+is-next-requires : tie.Need-is-next-requires Inv-loop μ-loop
+is-next-requires c κs = (search row-shape, search needs)
 
 add-note-if : tie.Need-add-note-if Inv-loop μ-loop
 add-note-if c = search row-at-fits
@@ -49,7 +49,7 @@ add-at-2 c =
     let t = c .before .before .before .before .before in
     let l = t .before .before in
     let s = l .before .before .before .before .before in
-    row-end-fits _ _ _ _ _ _ _ _ _ _ (l .before .loop .inv) (l .loop-test .taken) (s .pre .0) (t .before .is-bare .ensures) (t .if1 .taken) (s .pre .1 .0)
+    row-end-fits _ _ _ _ _ _ _ _ _ _ (l .before .loop .inv) (l .loop-test .taken) (s .pre .0) (t .before .is-next .ensures) (t .if1 .taken) (s .pre .1 .0)
 
 add-low : tie.Need-add-low Inv-loop μ-loop
 add-low c = search needs
@@ -62,7 +62,7 @@ loop-again c =
     let n = c .before .before .before in
     let t = n .before .before in
     let l = t .before .before in
-    row-step _ _ _ _ _ _ _ _ _ _ (l .before .loop .inv) (l .loop-test .taken) (l .before .before .before .before .before .pre .0) (t .before .is-bare .ensures) (t .if1 .taken) (n .note-if .ensures)
+    row-step _ _ _ _ _ _ _ _ _ _ (l .before .loop .inv) (l .loop-test .taken) (l .before .before .before .before .before .pre .0) (t .before .is-next .ensures) (t .if1 .taken) (n .note-if .ensures)
 
 same-length : tie.Need-same-length Inv-loop μ-loop
 same-length c = search needs
@@ -83,7 +83,7 @@ take-row-spec =
     Inv-loop
     μ-loop
     loop-holds
-    is-bare-requires
+    is-next-requires
     add-note-if
     add-note-if-2
     note-if-requires

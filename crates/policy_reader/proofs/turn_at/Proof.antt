@@ -5,8 +5,14 @@ use Rattle.policy_reader.proofs.File.{turn-end, turn-eight, turn-bad, t
 use Rattle.policy_reader.proofs.turn_at.Statement.{statement}
 use Rattle.policy_reader.proofs.turn_at.Tie as tie
 
+last-turn-requires : tie.Need-last-turn-requires
+last-turn-requires c κs = search needs
+
 returns : tie.Need-returns
 returns c = search turn-end
+
+last-turn-requires-2 : tie.Need-last-turn-requires-2
+last-turn-requires-2 c κs = search needs
 
 returns-2 : tie.Need-returns-2
 returns-2 c = search turn-eight
@@ -17,11 +23,14 @@ read-policy-requires c κs = (search needs, (search needs, search turn-open))
 enum-known-number : tie.Need-enum-known-number
 enum-known-number c = search needs
 
-add-t19 : tie.Need-add-t19
-add-t19 c =
+add-last-turn : tie.Need-add-last-turn
+add-last-turn c =
     let r = c .before .before .before .before .before in
     let e = r .before .before in
     turn-points _ _ _ _ _ _ _ _ (e .before .if1 .left) (e .if2 .left) (r .read-policy .ensures) (c .before .number .given .1) (search (needs, e .before .before .before .before .before .before .good))
+
+last-turn-requires-3 : tie.Need-last-turn-requires-3
+last-turn-requires-3 c κs = search needs
 
 enum-known-width : tie.Need-enum-known-width
 enum-known-width c = search needs
@@ -48,11 +57,14 @@ pub turn-at-spec : {M : Type 1} → statement M
 turn-at-spec =
     tie.close
     (tie.spec
+    last-turn-requires
     returns
+    last-turn-requires-2
     returns-2
     read-policy-requires
     enum-known-number
-    add-t19
+    add-last-turn
+    last-turn-requires-3
     enum-known-width
     add-t20
     same-length
