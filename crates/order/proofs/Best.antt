@@ -16,7 +16,8 @@ use Rattle.model.specs.Reconciling.{best}
 use Rattle.model.proofs.Lawful.{Strict, Total}
 use Rattle.model.proofs.Ranks.{by-strict, by-total}
 use Rattle.model.proofs.Successors.{best-at, best-none-at}
-use Rattle.order.specs.Order.{countUp, rankIn, betterIn, inSet, firstColumn, Picked, over, First}
+use Rattle.model.specs.Ranks.{countUp, rankIn, betterIn}
+use Rattle.order.specs.Order.{inSet, firstColumn, Picked, over, First}
 
 pub in-strict : (t : List ℕ) (rows : ℕ) → Strict (betterIn t rows)
 unfolding betterIn

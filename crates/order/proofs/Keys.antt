@@ -10,7 +10,8 @@ use native.Mathlib.Decide.{decLt, ℕ-discrete}
 use borrow.Author.Tests.{eq-eqb, eqb-true}
 use lib.ListN.{getD}
 use Rattle.fields.proofs.Tests.{never}
-use Rattle.order.specs.Order.{inSet, betterIn, keyIn, Keyed, TwoLeast, First}
+use Rattle.model.specs.Ranks.{betterIn}
+use Rattle.order.specs.Order.{inSet, keyIn, Keyed, TwoLeast, First}
 use Rattle.order.proofs.Rows.{better-start, better-more}
 use Rattle.order.proofs.Best.{in-strict}
 

@@ -9,7 +9,8 @@ use borrow.Author.Tests.{lt-ltb, le-ltb, eq-eqb, ne-eqb, le-leb, lt-leb}
 use lib.Dec.{eqb, ltb}
 use lib.ListN.{getD}
 use Rattle.model.specs.Order.{betterBy}
-use Rattle.order.specs.Order.{countUp, rankIn, betterIn, over}
+use Rattle.model.specs.Ranks.{countUp, rankIn, betterIn}
+use Rattle.order.specs.Order.{over}
 
 pub next-row : (rows j : ℕ) → j < rows → countUp (rows - j) j ≡ j ∷ countUp (rows - (j + 1)) (j + 1)
 unfolding countUp

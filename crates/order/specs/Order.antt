@@ -1,32 +1,13 @@
 -- Which successor of a node comes first, from their ranks alone (01, 'The order').
-use Prim.Native.Nat.{ℕ, zero, suc, _+_, _*_, _/_, _%_, _≤_, _<_}
+use Prim.Native.Nat.{ℕ, _+_, _*_, _/_, _%_, _≤_, _<_}
 use mathlib.Core.Path.{_≡_}
 use mathlib.Core.Bool.{Bool, true, cond, _||_}
-use mathlib.Core.List.{List, [], _∷_}
+use mathlib.Core.List.{List}
 use mathlib.Core.Option.{Option·getD}
 use lib.ListN.{getD}
 use lib.Dec.{eqb, leb}
-use Rattle.model.specs.Order.{betterBy}
+use Rattle.model.specs.Ranks.{countUp, betterIn}
 use Rattle.model.specs.Reconciling.{best}
-
--- k numbers from c on
-unfoldable pub countUp : ℕ → ℕ → List ℕ
-countUp zero c = []
-countUp (suc k) c = c ∷ countUp k (c + 1)
-
--- a table of ranks, eight to a row: a row for each policy in force, in file order, a column for each successor
-abbrev pub rowSlot : ℕ → ℕ
-rowSlot j = 8 * j
-
-abbrev pub rankSlot : ℕ → ℕ → ℕ
-rankSlot j k = rowSlot j + k
-
-abbrev pub rankIn : List ℕ → ℕ → ℕ → ℕ
-rankIn t j k = getD t (rankSlot j k) 0
-
--- the order of two columns by the rows
-unfoldable pub betterIn : List ℕ → ℕ → ℕ → ℕ → Bool
-betterIn t rows p q = betterBy (rankIn t) (countUp rows 0) p q
 
 -- column k has the byte 1 in a set
 abbrev pub inSet : List ℕ → ℕ → Bool

@@ -6,13 +6,11 @@ ghost use Rattle.policies.specs.Policies.{mostPolicies};
 ghost use Rattle.schema.specs.Schema.{schemaOf, nodeAt};
 ghost use Rattle.schema.specs.Table.{NodeIn, AtMost};
 ghost use Rattle.model.specs.Satisfaction.{columnOf, every};
-ghost use Rattle.order.specs.Order.{inSet, betterIn, over, Keyed, TwoLeast, First, Picked};
-use policies::MOST_POLICIES;
+ghost use Rattle.model.specs.Ranks.{betterIn};
+ghost use Rattle.order.specs.Order.{inSet, over, Keyed, TwoLeast, First, Picked};
+use policies::RANKS;
 use schema::MOST_NODES;
 use schema::MOST_SUCCESSORS;
-
-// A table of ranks: a row for each policy, a column for each successor.
-pub const RANKS: usize = MOST_POLICIES * MOST_SUCCESSORS;
 
 // The column of x among node n's successors, their number where it is none of them.
 pub fn column_of(schema: &[u8], table: &[u16], n: usize, x: usize) -> usize

@@ -28,7 +28,8 @@ use Rattle.model.specs.Reconciling.{best}
 use Rattle.model.proofs.Lists.{at-elem, Place, elem-at}
 use Rattle.model.proofs.Successors.{IsBest, no-best, a-best, best-is, best-at, best-only}
 use Rattle.model.proofs.Ranks.{better-strict, better-total}
-use Rattle.order.specs.Order.{countUp, betterIn, inSet, firstColumn, Picked}
+use Rattle.model.specs.Ranks.{countUp, betterIn}
+use Rattle.order.specs.Order.{inSet, firstColumn, Picked}
 use Rattle.order.proofs.Best.{in-strict, count-length, count-of}
 use Rattle.ranks.specs.Ranks.{betterColumn, RanksGathered}
 use Rattle.ranks.proofs.Ranks.{better-gathered}

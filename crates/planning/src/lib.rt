@@ -14,7 +14,7 @@ ghost use Rattle.planning.specs.Plan.{EligibleRoom, Plans, entriesLength
 ghost use Rattle.planning.specs.Sweep.{Columns, SuccessorsIn, Choice, Chosen, NoneBanned, Allowed, NodePlanned, Swept, Eligible, Reached};
 use instances::ENTRY_WIDTH;
 use instances::HEAD_WIDTH;
-use order::RANKS;
+use policies::RANKS;
 use policies::ROW_SLOTS;
 use schema::MOST_NODES;
 use schema::MOST_SUCCESSORS;

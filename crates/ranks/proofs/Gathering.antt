@@ -18,7 +18,7 @@ use Rattle.fields.proofs.Tests.{never}
 use Rattle.policies.specs.Rows.{BytesAt}
 use Rattle.policies.proofs.Offsets.{some-left, none-left}
 use Rattle.model.specs.Order.{betterBy}
-use Rattle.order.specs.Order.{countUp, rankIn, betterIn}
+use Rattle.model.specs.Ranks.{countUp, rankIn, betterIn}
 use Rattle.ranks.specs.Ranks.{RanksGathered, RowFilled, betterAt, AllAlike, Skipped}
 use Rattle.ranks.proofs.Banning.{below-eight, fewer-bytes}
 

@@ -14,7 +14,7 @@ use Rattle.policies.specs.Policies.{Policy}
 use Rattle.model.specs.Satisfaction.{columnOf, rank, allowed}
 use Rattle.model.specs.Order.{better}
 use Rattle.model.proofs.Ranks.{allowed-at, better-at}
-use Rattle.order.specs.Order.{betterIn}
+use Rattle.model.specs.Ranks.{betterIn}
 use Rattle.ranks.specs.Ranks.{allowedColumn, betterColumn, RanksGathered}
 
 -- ---- a successor's column

@@ -8,7 +8,7 @@ use lib.Dec.{eqb, ltb}
 use Rattle.policies.specs.Policies.{Rule, Policy, mostPolicies, rankOf}
 use Rattle.model.specs.Satisfaction.{every}
 use Rattle.model.specs.Order.{betterBy}
-use Rattle.order.specs.Order.{rowSlot, rankIn, betterIn}
+use Rattle.model.specs.Ranks.{rowSlot, rankIn, betterIn}
 use Rattle.ranks.specs.declared.RankOrder.{RankOrder}
 use Rattle.ranks.specs.declared.RankOrder.the-variants.{Before, After, Alike}
 

@@ -8,9 +8,9 @@ ghost use Rattle.schema.specs.Table.{NodeIn};
 ghost use Rattle.schema.specs.Layout.{rankCount};
 ghost use Rattle.policies.specs.Policies.{mostPolicies};
 ghost use Rattle.policies.specs.Rows.{noted, rulesFor, Noted, BytesAt};
-ghost use Rattle.order.specs.Order.{rowSlot};
+ghost use Rattle.model.specs.Ranks.{rowSlot};
 ghost use Rattle.ranks.specs.Ranks.{allowedColumn, Bans, betterColumn, orderBy, rankOrder, RanksGathered, allowedAt, rankByte, rankAt, BansEight, RowFilled, betterAt, AllAlike, Skipped};
-use order::RANKS;
+use policies::RANKS;
 use policies::ROW_SLOTS;
 use schema::MOST_SUCCESSORS;
 

@@ -3,7 +3,7 @@
 use mathlib.Core.Path.{_≡_}
 use Prim.Native.Nat.{_-_}
 use Rattle.model.specs.Order.{betterBy}
-use Rattle.order.specs.Order.{countUp, rankIn, betterIn}
+use Rattle.model.specs.Ranks.{countUp, rankIn, betterIn}
 use Rattle.order.proofs.Rows.{better-start, better-less, better-more, better-on, better-done}
 use borrow.Author.Needs.{needs}
 use Rattle.order.proofs.is_better.Statement.{statement}
