@@ -7,21 +7,21 @@ use mathlib.Core.List.{List, [], _∷_}
 use Prim.Native.Nat.{ℕ, _+_, _*_, _≤_, _<_}
 use native.Mathlib.Omega.{arith}
 use native.Mathlib.Nat.{add-zero}
-use native.Mathlib.Numerals.{add-one}
 use lib.ListN.{length, getD, drop, drop-of-length-le}
 use lib.IntN.{ℤ}
 use mir.Syntax.{w64}
 use mir.Val.{Fits}
 use Rattle.schema.specs.Schema.{Node, nodeAt, variableAt}
 use Rattle.schema.specs.Table.{AtMost}
-use Rattle.schema.specs.Layout.{rankCount, span, spans, offsetOf}
+use Rattle.schema.specs.Layout.{rankCount, span, offsetOf}
 use Rattle.schema.specs.declared.Variable.{Variable}
 use Rattle.schema.specs.declared.Variable.the-variants.{Number, Listed}
 use Rattle.policies.specs.Policies.{Policy}
-use Rattle.policies.proofs.Nodes.{spans-next}
+use Rattle.policies.proofs.Nodes.{offset-first, offset-next, span-of-number, span-of-listed}
 use Rattle.instances.specs.File.{valueWidth, valuesWidth, valueOf}
 use Rattle.instances.specs.Plan.{valuesFrom}
 use Rattle.instances.proofs.Node.{vars-more}
+use Rattle.instances.proofs.Lengths.{width-number, width-listed}
 use Rattle.model.specs.Satisfaction.{admitted}
 use Rattle.model.specs.Comparing.{forbiddenValue}
 use Rattle.checker.specs.Checks.{forbiddenIn}
@@ -37,9 +37,7 @@ pub record Judging (g : List Node) (ps : List Policy) (n : ℕ) (bits : List ℕ
 
 pub judging-init : (g : List Node) (ps : List Policy) (n : ℕ) (bits : List ℕ) (p : ℕ) {skip : ℕ} → p + valuesWidth (nodeAt g n .variables) ≤ 1283 → AtMost 8 (rankCount (nodeAt g n)) skip
     → Judging g ps n bits (forbiddenIn (forbiddenValue ps n 0 (nodeAt g n .variables) (valuesFrom (nodeAt g n .variables) bits (4 * n)) p)) 0 p skip
-unfolding offsetOf spans
-judging-init g ps n bits p r m =
-    record { rest = rw (add-zero (4 * n)); room = r; place = m .is ∙ sym (add-zero (rankCount (nodeAt g n))); small = omega (arith, m .most) }
+judging-init g ps n bits p r m = record { rest = rw (add-zero (4 * n)); room = r; place = offset-first (nodeAt g n) m; small = omega (arith, m .most) }
 
 module _ (g : List Node) (ps : List Policy) (n : ℕ) (bits : List ℕ) {X : Forbidden} (k p skip : ℕ) {m : ℕ} (w : Judging g ps n bits X k p skip) (l : AtMost 4 (length (nodeAt g n .variables)) m) where
   pub judging-exit : m ≤ k → Nowhere ≡ X
@@ -69,10 +67,6 @@ module _ (g : List Node) (ps : List Policy) (n : ℕ) (bits : List ℕ) {X : For
     unfolding forbiddenValue valuesFrom
     judged = sym (ap (λ (l : List Variable). forbiddenIn (forbiddenValue ps n k l (valuesFrom l bits (4 * n + k)) p)) first) ∙ w .rest
 
-    next-place : span v + skip ≡ offsetOf (nodeAt g n) (k + 1)
-    unfolding offsetOf
-    next-place = rw (add-one k) (let z = w .place in omega (arith, spans-next (nodeAt g n .variables) k (omega (arith, l .is))))
-
     pub judging-below : k < length (nodeAt g n .variables)
     judging-below = omega (arith, l .is)
 
@@ -93,25 +87,21 @@ module _ (g : List Node) (ps : List Policy) (n : ℕ) (bits : List ℕ) {X : For
               ∙ sym (ap (λ (b : Bool). forbiddenIn (cond b (forbiddenValue ps n (k + 1) vs (valuesFrom vs bits (4 * n + k + 1)) (p + valueWidth v)) (some p))) t)
               ∙ judged;
           room = omega (arith, w .room, widths);
-          place = (let z : skip + b ≡ span v + skip = omega arith in z) ∙ next-place;
+          place = ap (λ (i : ℕ). skip + i) (sym eb) ∙ offset-next (nodeAt g n) k (w .place) judging-below;
           small = omega (arith, w .small);
         }
 
     module _ {r : Bool} (q : r ≡ admitted ps n k v (valueOf v value)) (t : r ≡ true) {x : Variable} (e : x ≡ v) where
       module _ {lo hi : ℤ} (i : x ≡ Number lo hi) where
         pub number-fits : Fits w64 (p + 4)
-        unfolding valueWidth
-        number-fits = let z : valueWidth v ≡ 4 = ap valueWidth (sym e ∙ i) in record { fits = omega (arith, w .room, widths) }
+        number-fits = record { fits = omega (arith, w .room, widths, width-number v (sym e ∙ i)) }
 
         pub judging-number : Judging g ps n bits X (k + 1) (p + 4) (skip + 8)
-        unfolding valueWidth span
-        judging-number = next (sym q ∙ t) 4 8 (ap valueWidth (sym e ∙ i)) (ap span (sym e ∙ i)) (omega arith)
+        judging-number = next (sym q ∙ t) 4 8 (sym (width-number v (sym e ∙ i))) (span-of-number (sym e ∙ i)) (omega arith)
 
       module _ {size : ℕ} (i : x ≡ Listed size) where
         pub listed-fits : Fits w64 (p + 1)
-        unfolding valueWidth
-        listed-fits = let z : valueWidth v ≡ 1 = ap valueWidth (sym e ∙ i) in record { fits = omega (arith, w .room, widths) }
+        listed-fits = record { fits = omega (arith, w .room, widths, width-listed v (sym e ∙ i)) }
 
         pub judging-listed : Judging g ps n bits X (k + 1) (p + 1) (skip + 4)
-        unfolding valueWidth span
-        judging-listed = next (sym q ∙ t) 1 4 (ap valueWidth (sym e ∙ i)) (ap span (sym e ∙ i)) (omega arith)
+        judging-listed = next (sym q ∙ t) 1 4 (sym (width-listed v (sym e ∙ i))) (span-of-listed (sym e ∙ i)) (omega arith)

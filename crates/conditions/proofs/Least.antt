@@ -8,7 +8,6 @@ use mathlib.Core.Option.{Option, none, some}
 use Prim.Native.Nat.{ℕ, zero, suc, _+_, _*_, _≤_, _<_, _^_}
 use native.Mathlib.Omega.{arith}
 use native.Mathlib.Nat.{add-zero, zero-add}
-use native.Mathlib.Numerals.{add-one}
 use native.Mathlib.Decide.{decLt}
 use borrow.Author.Tests.{eq-eqb, ne-eqb, ltb-true, ltb-false, le-leb, lt-leb}
 use lib.ListN.{length, getD, take, set, replicate, length-set, length-replicate}
@@ -27,12 +26,12 @@ use Rattle.schema.specs.Schema.{Node, schemaOf, nodeAt, noVariable, isNumber}
 use Rattle.schema.specs.Table.{NodeIn, AtMost}
 use Rattle.schema.specs.declared.Variable.{Variable}
 use Rattle.schema.specs.declared.Variable.the-variants.{Number, Listed}
-use Rattle.schema.specs.Layout.{rankCount, span, spans, offsetOf}
+use Rattle.schema.specs.Layout.{rankCount, span, offsetOf}
 use Rattle.schema.proofs.Sound.{SoundVariable, SoundVariables}
 use Rattle.schema.proofs.Access.{here}
 use Rattle.policies.specs.Policies.{Condition, range, mask, Policy}
 use Rattle.policies.specs.Rows.{rulesAt, RulesAt, BytesAt}
-use Rattle.policies.proofs.Nodes.{spans-next}
+use Rattle.policies.proofs.Nodes.{offset-first, offset-next, span-of-number, span-of-listed}
 use Rattle.instances.specs.File.{valueOf}
 use Rattle.instances.specs.Plan.{valuesFrom, BitsRoom}
 use Rattle.model.specs.Reconciling.{own, restrictAll, combinedFrom, combined, isSome, least, leastEach, withFirst}
@@ -151,11 +150,10 @@ pub record Finding (g : List Node) (qs : List Policy) (n k skip : ℕ) (lo hi : 
 
 pub finding-init : (g : List Node) (qs : List Policy) (n : ℕ) (t : List ℕ) {skip : ℕ} → AtMost 8 (rankCount (nodeAt g n)) skip
     → Finding g qs n 0 skip (replicate 4 (pos 0)) (replicate 4 (pos 0)) (replicate 4 0) t t
-unfolding offsetOf spans
 finding-init g qs n t m =
     record {
       upto = omega arith;
-      place = m .is ∙ sym (add-zero (rankCount (nodeAt g n)));
+      place = offset-first (nodeAt g n) m;
       small = omega (arith, m .most);
       each = λ i h. absurd (omega arith);
       outside = outside-init n t;
@@ -210,10 +208,6 @@ module _ (s table p : List ℕ) (count : ℕ) (offsets : List ℕ) (n k skip : �
     below : k < length (nodeAt g n .variables)
     below = omega (arith, m .is)
 
-    next : span (getD (nodeAt g n .variables) k noVariable) + skip ≡ offsetOf (nodeAt g n) (k + 1)
-    unfolding offsetOf
-    next = rw (add-one k) (let z = w .place in omega (arith, spans-next (nodeAt g n .variables) k below))
-
     range-place : {a b : ℤ} → x ≡ Number a b → ConditionIn g n k skip true
     range-place i = record { below = below; type = ap isNumber (sym e ∙ i); place = w .place }
 
@@ -236,14 +230,14 @@ module _ (s table p : List ℕ) (count : ℕ) (offsets : List ℕ) (n k skip : �
         ∙ sym d
 
     -- its least value
-    turned : {q : ℕ} {ls us : List ℤ} {ns : List ℕ} (u : ℕ) → length ls ≡ 4 → length us ≡ 4 → length ns ≡ 4
+    turned : {d : ℕ} {ls us : List ℤ} {ns : List ℕ} (u : ℕ) → length ls ≡ 4 → length us ≡ 4 → length ns ≡ 4
         → least (getD (combined g qs n) k (mask 0)) ≡ some (valueOf (getD (nodeAt g n .variables) k noVariable) u)
-        → span (getD (nodeAt g n .variables) k noVariable) + skip ≡ q → q ≤ skip + 8 → Finding g qs n (k + 1) q ls us ns t₀ (set t (4 * n + k) u)
+        → span (getD (nodeAt g n .variables) k noVariable) ≡ d → d ≤ 8 → Finding g qs n (k + 1) (skip + d) ls us ns t₀ (set t (4 * n + k) u)
     turned u a b c l z i =
         let q = m .most in
         record {
           upto = omega (arith, below);
-          place = sym z ∙ next;
+          place = ap (λ (j : ℕ). skip + j) (sym z) ∙ offset-next (nodeAt g n) k (w .place) below;
           small = omega (arith, w .small);
           each = λ i j. one i j (decLt i k);
           outside = outside-set n t₀ t (w .outside) (4 * n + k) u (omega arith) (omega arith);
@@ -291,11 +285,10 @@ module _ (s table p : List ℕ) (count : ℕ) (offsets : List ℕ) (n k skip : �
 
       pub finding-range : {r : ℕ} → ltZ (toZ w32 (ofZ w32 upper)) (toZ w32 (ofZ w32 lower)) ≡ false → r ≡ unsigned (toZ w32 (ofZ w32 lower))
           → Finding g qs n (k + 1) (skip + 8) (set lo k (toZ w32 (ofZ w32 u))) (set hi k (toZ w32 (ofZ w32 z))) ms t₀ (set t (4 * n + k) r)
-      unfolding span
       finding-range {r} o c =
           turned r (length-set lo k (toZ w32 (ofZ w32 u)) ∙ w .lower) (length-set hi k (toZ w32 (ofZ w32 z)) ∙ w .upper) (w .masks)
           (ap least range-here ∙ range-some lower upper fits-lower fits-upper (getD (nodeAt g n .variables) k noVariable) (ap isNumber (sym e ∙ i)) o c)
-          (let z : span (getD (nodeAt g n .variables) k noVariable) ≡ 8 = ap span (sym e ∙ i) in omega arith)
+          (span-of-number (sym e ∙ i))
           (omega arith)
 
     -- a listed variable
@@ -314,9 +307,9 @@ module _ (s table p : List ℕ) (count : ℕ) (offsets : List ℕ) (n k skip : �
       finding-no-bit o = least-none g qs n (w .outside) k below (ap least mask-here ∙ rw (eq-eqb left 0 o) refl)
 
       pub finding-mask : {q : ℕ} → (left ≡ 0 → ⊥) → Lowest 32 left q → Finding g qs n (k + 1) (skip + 4) lo hi (set ms k r) t₀ (set t (4 * n + k) q)
-      unfolding span least valueOf
+      unfolding least valueOf
       finding-mask {q} o c =
           turned q (w .lower) (w .upper) (length-set ms k r ∙ w .masks)
           (ap least mask-here ∙ rw (ne-eqb left 0 o) (ap {B = Option ℤ} (λ (j : ℕ). some (pos j)) (sym (c .is)) ∙ ap {B = Option ℤ} (λ (y : Variable). some (valueOf y q)) (sym (sym e ∙ i))))
-          (let z : span (getD (nodeAt g n .variables) k noVariable) ≡ 4 = ap span (sym e ∙ i) in omega arith)
+          (span-of-listed (sym e ∙ i))
           (omega arith)

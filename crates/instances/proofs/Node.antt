@@ -9,6 +9,7 @@ use native.Mathlib.Numerals.{add-one}
 use lib.Dec.{eqb, ltb}
 use lib.ListN.{length, getD, drop, drop-of-length-le}
 use lib.Seq.{drop-cons}
+use Rattle.fields.proofs.Tests.{and-true}
 use Rattle.numbers.specs.Bits.{with, withAll}
 use Rattle.schema.specs.Schema.{Node, nodeAt, noVariable}
 use Rattle.schema.specs.Layout.{rankCount}
@@ -47,6 +48,11 @@ module _ (x : Node) where
       go : (b : Bool) → ltb 0 (cond b (length (x .successors)) 0) ≡ (b && ltb 0 (length (x .successors)))
       go true = refl
       go false = refl
+
+  -- a node that chooses has a rank for each successor
+  pub chooses-columns : chooses x ≡ true → rankCount x ≡ length (x .successors)
+  unfolding chooses rankCount
+  chooses-columns q = rw (and-true (eqb (x .kind) 1) (ltb 0 (length (x .successors))) q .0)
 
   module _ {b : Bool} (c : ℕ) where
     pub reach-one : (m : ℕ) {r : ℕ} → b ≡ chooses x → b ≡ true → r ≡ with m c → r ≡ withAll m (reaches x c)

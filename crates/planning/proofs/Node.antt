@@ -8,7 +8,7 @@ use Prim.Native.Nat.{ℕ, _*_}
 use native.Mathlib.Omega.{arith}
 use borrow.Author.Tests.{eq-eqb, ne-eqb, eqb-true}
 use lib.Bits.{bitAnd}
-use lib.Dec.{eqb, ltb}
+use lib.Dec.{eqb}
 use lib.IntN.{ℤ}
 use lib.ListN.{length, getD, set, length-set}
 use lib.Seq.{getD-set-same, getD-set-other}
@@ -18,12 +18,12 @@ use Rattle.numbers.specs.Bits.{bit, withAll}
 use Rattle.numbers.proofs.Bits.{no-bit, all-bit, both-bit, no-bits, subset-in, in-subset}
 use Rattle.schema.specs.Schema.{Node, schemaOf, nodeAt}
 use Rattle.schema.specs.Table.{SetsIn, NodeIn, AtMost}
-use Rattle.schema.specs.Layout.{rankCount}
 use Rattle.schema.proofs.Sound.{Sound}
 use Rattle.schema.proofs.Accepted.{sound}
 use Rattle.policies.specs.Policies.{Policy}
 use Rattle.instances.specs.Instance.{elem, chooses}
 use Rattle.instances.specs.Plan.{valuesFrom}
+use Rattle.instances.proofs.Node.{chooses-columns}
 use Rattle.instances.proofs.Valid.{mem-elem, successor-in}
 use Rattle.model.specs.Satisfaction.{every, allowed}
 use Rattle.model.specs.Reconciling.{Rules, combined, isSome, taken, canStep, rulesOf}
@@ -37,10 +37,7 @@ use Rattle.planning.specs.Sweep.{Columns, Allowed, isEligible, NodePlann
 -- a node that chooses has a rank for each successor
 pub node-columns : (schema table : List ℕ) (n : ℕ) {columns : ℕ} → NodeIn schema table n → AtMost 8 (length (nodeAt (schemaOf schema) n .successors)) columns
     → chooses (nodeAt (schemaOf schema) n) ≡ true → Columns schema n columns
-unfolding chooses rankCount
-node-columns schema table n h m q =
-    let z = and-true (eqb (nodeAt (schemaOf schema) n .kind) 1) (ltb 0 (length (nodeAt (schemaOf schema) n .successors))) q in
-    record { below = h .below; is = m .is; ranked = m .is ∙ rw (z .0); most = m .most }
+node-columns schema table n h m q = record { below = h .below; is = m .is; ranked = m .is ∙ sym (chooses-columns (nodeAt (schemaOf schema) n) q); most = m .most }
 
 pub node-chooses : (schema : List ℕ) (n : ℕ) {t : Bool} → t ≡ chooses (nodeAt (schemaOf schema) n) → t ≡ true → chooses (nodeAt (schemaOf schema) n) ≡ true
 node-chooses schema n e q = sym e ∙ q

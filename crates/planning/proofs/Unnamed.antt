@@ -1,15 +1,15 @@
 -- A node that no noted policy names: there the lower number is better, and nothing is forbidden.
 -- Rests on policies' law of the rows and on the model's law of policies with the same PN.
-use mathlib.Core.Path.{_≡_, ap, _∙_, fun-ext}
+use mathlib.Core.Path.{_≡_, fun-ext}
 use mathlib.Core.Bool.{true}
 use mathlib.Core.List.{List, []}
-use Prim.Native.Nat.{ℕ, _+_, _*_, _<_}
+use Prim.Native.Nat.{ℕ, _*_, _<_}
 use lib.Dec.{ltb}
-use lib.ListN.{length, getD, take, drop}
+use lib.ListN.{length, getD}
 use Rattle.schema.specs.Schema.{Node, schemaOf}
 use Rattle.policies.specs.Policies.{Policy}
-use Rattle.policies.specs.Rows.{rulesFor, rulesAt, offsetsIn, noted, Noted}
-use Rattle.policies.proofs.Noted.{noted-at}
+use Rattle.policies.specs.Rows.{rulesFor, noted, Noted}
+use Rattle.policies.proofs.Noted.{noted-unnamed}
 use Rattle.model.specs.Satisfaction.{allowed}
 use Rattle.model.specs.Order.{betterBy, better}
 use Rattle.model.proofs.Same.{better-same, allowed-same}
@@ -22,8 +22,7 @@ module _ (s p rows : List ℕ) (n : ℕ) (w : Noted s p rows) (h : n < length (s
   qs = noted g p rows
 
   unnamed : rulesFor n qs ≡ rulesFor n []
-  unfolding offsetsIn rulesAt
-  unnamed = noted-at s p rows w n h ∙ ap (λ (k : ℕ). rulesFor n (rulesAt g p n (take k (drop (17 * n + 1 + 0) rows)))) e
+  unnamed = noted-unnamed s p rows w n h e
 
   pub unnamed-better : better g qs n ≡ ltb
   unfolding better betterBy

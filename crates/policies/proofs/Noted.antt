@@ -7,7 +7,7 @@ use Prim.Native.Nat.{ℕ, zero, suc, _+_, _*_, _≤_, _<_}
 use native.Mathlib.Omega.{arith}
 use native.Mathlib.Decide.{ℕ-discrete, decLt}
 use borrow.Author.Tests.{eq-eqb, ne-eqb, eqb-true}
-use lib.ListN.{length, getD, drop, length-drop}
+use lib.ListN.{length, getD, take, drop, length-drop}
 use lib.Seq.{getD-take, length-take-le}
 use lib.Dec.{eqb}
 use Rattle.schema.specs.Schema.{Node, schemaOf, nodeAt}
@@ -186,6 +186,11 @@ module _ (s p t : List ℕ) (w : Noted s p t) where
   pub noted-at : (n : ℕ) → n < length nodes → rulesFor n (noted nodes p t) ≡ rulesFor n (rulesAt nodes p n (offsetsIn t n))
   unfolding noted
   noted-at n h = from-at n 0 (length nodes) (omega arith) (omega arith) (omega arith)
+
+  -- none, where the row's count is 0
+  pub noted-unnamed : (n : ℕ) → n < length nodes → getD t (rowSlot n) 0 ≡ 0 → rulesFor n (noted nodes p t) ≡ rulesFor n []
+  unfolding offsetsIn rulesAt
+  noted-unnamed n h e = noted-at n h ∙ ap (λ (k : ℕ). rulesFor n (rulesAt nodes p n (take k (drop (rowSlot n + 1 + 0) t)))) e
 
   pub noted-none : (n : ℕ) → length nodes ≤ n → rulesFor n (noted nodes p t) ≡ []
   unfolding noted

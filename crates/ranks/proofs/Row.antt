@@ -1,7 +1,7 @@
 -- What the row of a node tells of its ranks: which columns are forbidden, how two compare, and the order that rows of ranks make.
 -- Rests on what the row tells and on the ranks at its offsets, in policies, and on the model's laws of tests and orders by PN.
 use mathlib.Core.Path.{_≡_, refl, ap, ap₂, sym, _∙_}
-use mathlib.Core.Bool.{Bool, true, false, cond, not, _&&_}
+use mathlib.Core.Bool.{Bool, true, false, not, _&&_}
 use mathlib.Core.List.{List, [], _∷_, map}
 use Prim.Native.Nat.{ℕ, suc, _+_, _≤_, _<_}
 use native.Mathlib.Omega.{arith}
@@ -12,6 +12,7 @@ use Rattle.fields.proofs.Bytes.{Bytes}
 use Rattle.schema.specs.Schema.{Node, schemaOf, nodeAt}
 use Rattle.schema.specs.Table.{AtMost}
 use Rattle.schema.specs.Layout.{rankCount}
+use Rattle.schema.proofs.Access.{ranks-few}
 use Rattle.schema.proofs.Accepted.{sound}
 use Rattle.policies.specs.Policies.{Rule, rankOf}
 use Rattle.policies.specs.Rows.{ruleAt, noted, rulesFor, RuleAt, RulesAt, Noted, BytesAt}
@@ -23,14 +24,6 @@ use Rattle.model.proofs.Same.{every-by, better-by}
 use Rattle.ranks.specs.Ranks.{allowedColumn, Bans, betterColumn, orderBy, rankOrder, RanksGathered, allowedAt, rankAt, BansEight, betterAt}
 use Rattle.ranks.specs.declared.RankOrder.{RankOrder}
 use Rattle.ranks.proofs.Comparing.{rank-at-here, rank-at-beyond}
-
-ranks-few : (x : Node) → length (x .successors) ≤ 8 → rankCount x ≤ 8
-unfolding rankCount
-ranks-few x h = go (eqb (x .kind) 1)
-  where
-    go : (b : Bool) → cond b (length (x .successors)) 0 ≤ 8
-    go true = h
-    go false = omega arith
 
 -- no rank of 255 in column k
 allows : ℕ → Rule → Bool

@@ -125,7 +125,7 @@ module _ (s t : List ℕ) (n : ℕ) (h : NodeIn s t n) (b : Bytes s) where
 few-here : (s t : List ℕ) (n : ℕ) → NodeIn s t n → length (nodeAt (schemaOf s) n .variables) ≤ 4
 few-here s t n h = here s t n h .one .few-variables
 
-ranks-few : (x : Node) → length (x .successors) ≤ 8 → rankCount x ≤ 8
+pub ranks-few : (x : Node) → length (x .successors) ≤ 8 → rankCount x ≤ 8
 unfolding rankCount
 ranks-few x h = go (eqb (x .kind) 1)
   where
