@@ -1,4 +1,6 @@
 // The checker: the first choice or value field of an instance that a policy in force forbids.
+#![tactic(auto)]
+
 ghost use Rattle.std.specs.Prelude.{◌≡◌, ◌+◌, ◌≤◌};
 ghost use Rattle.fields.specs.Answers.{refusal};
 ghost use Rattle.schema.specs.Schema.{schema_of, node_at};
@@ -21,7 +23,7 @@ use policies::{MASK_WIDTH, RANGE_WIDTH, ROW_SLOTS};
 use schema::{MOST_NODES, MOST_VARIABLES, Variable};
 
 // The offset of the first field that is forbidden, if there is one.
-#[derive(Drop)]
+#[derive(Clone, Copy)]
 enum Forbidden {
     Nowhere,
     At { offset: usize },

@@ -1,4 +1,6 @@
 // The console sheet of an instance, laid out: fixed columns, a line for each entry.
+#![tactic(auto)]
+
 ghost use Rattle.std.specs.Prelude.{◌≡◌, ◌∷◌, ◌++◌, ◌+◌, ◌*◌, ◌-◌, ◌≤◌, ◌<◌, length};
 ghost use Rattle.fields.specs.Writing.{Wrote};
 ghost use Rattle.decimals.specs.Decimal.{decimal};

@@ -1,4 +1,6 @@
 // The comparison of two instances: nodes from the highest to 0, each once.
+#![tactic(auto)]
+
 ghost use Rattle.std.specs.Prelude.{◌≡◌, cond, length, get_or};
 ghost use Rattle.fields.specs.Answers.{refusal};
 ghost use Rattle.schema.specs.Schema.{most_nodes, schema_of};

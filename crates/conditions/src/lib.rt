@@ -1,5 +1,7 @@
 // What the policies that rows note say of a node's variables: the least values that the conditions of the schema and of their
 // PN leave, and which values these PN admit.
+#![tactic(auto)]
+
 ghost use Rattle.std.specs.Prelude.{◌≡◌, true, ◌+◌, ◌<◌, ◌≤◌, length, take};
 ghost use Rattle.fields.specs.Reading.{be, signed};
 ghost use Rattle.numbers.specs.Bits.{ones};
@@ -27,7 +29,7 @@ const THIRD: usize = 2 * RANGE_WIDTH;
 const FOURTH: usize = 3 * RANGE_WIDTH;
 
 // The combined conditions of one node: a range for a number, a mask for a listed variable, a place for each of four.
-#[derive(Drop)]
+#[derive(Clone, Copy)]
 pub struct Conditions {
     pub lo: [i32; MOST_VARIABLES],
     pub hi: [i32; MOST_VARIABLES],

@@ -1,4 +1,6 @@
 // The call that copies an instance.
+#![tactic(auto)]
+
 ghost use Rattle.fields.specs.Answers.{judged};
 ghost use Rattle.fields.specs.Outcomes.{Did, leaving, placed};
 ghost use Rattle.schema.specs.Schema.{schema_of};

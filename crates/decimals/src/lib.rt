@@ -1,4 +1,6 @@
 // A number's text, laid out.
+#![tactic(auto)]
+
 ghost use Rattle.std.specs.Prelude.{◌≡◌, ◌≤◌, length};
 ghost use Rattle.fields.specs.Writing.{Wrote};
 ghost use Rattle.decimals.specs.Decimal.{decimal};

@@ -1,5 +1,7 @@
 // The calls for C and Rust: a slice passes as a pointer and a length. The contract of each says what the answer and the
 // buffer are, and then what the demands, or 02/1, say of them; the last function tells the version.
+#![tactic(auto)]
+
 ghost use Rattle.std.specs.Prelude.{◌≡◌};
 ghost use Rattle.calls.specs.Calls.{reconciling, checking, comparing, copying, sheeting};
 ghost use Rattle.calls.proofs.ByCall.{Reconciles, Checks, Compares, Copies, Sheets};
@@ -18,7 +20,7 @@ const PATCH: u32 = 0;
 
 // neulenta_answer of include/neulenta.h.
 #[repr(C)]
-#[derive(Drop)]
+#[derive(Clone, Copy)]
 pub struct Exported {
     pub number: u32,
     pub file: u32,

@@ -1,25 +1,27 @@
 // What readers and calls answer, and the numbers that bytes spell.
+#![tactic(auto)]
+
 ghost use Rattle.std.specs.Prelude.{◌≡◌, ◌+◌, ◌*◌, ◌≤◌, length};
 ghost use Rattle.fields.specs.Reading.{be, signed};
 ghost use Rattle.fields.specs.Writing.{unsigned};
 ghost use Rattle.fields.specs.Answers.{success, refusal};
 
 // A field's value and the position after it, or the number of its breach and its offset.
-#[derive(Drop)]
+#[derive(Clone, Copy)]
 pub enum Field {
     Value { value: u32, next: usize },
     Cut { number: u8, offset: usize },
 }
 
 // The same of a signed field.
-#[derive(Drop)]
+#[derive(Clone, Copy)]
 pub enum SignedField {
     Signed { value: i32, next: usize },
     NoSigned { number: u8, offset: usize },
 }
 
 // The position after what was read, or a breach: what a reader answers whose values nobody asks for.
-#[derive(Drop)]
+#[derive(Clone, Copy)]
 pub enum Step {
     Next { at: usize },
     Bad { number: u8, offset: usize },
@@ -27,7 +29,7 @@ pub enum Step {
 
 // 01's answer; value is what a call adds, its length or its verdict. Number and file stand apart: side by side the compiler
 // copies them as one word, of which only two bytes were written, and that stalls.
-#[derive(Drop)]
+#[derive(Clone, Copy)]
 pub struct Answer {
     pub number: u8,
     pub offset: usize,

@@ -1,4 +1,6 @@
 // What the calls read after the schema: the policies, then the pass.
+#![tactic(auto)]
+
 ghost use Rattle.schema.specs.Table.{Accepted, Tabled};
 ghost use Rattle.policies.specs.Rows.{RowsRoom};
 ghost use Rattle.inputs.specs.Inputs.{YieldsInForce};
@@ -6,7 +8,7 @@ ghost use Rattle.inputs.specs.Inputs.{YieldsInForce};
 use fields::{Answer, Step};
 
 // Policies and pass were read, or the answer of a call that refuses them.
-#[derive(Drop)]
+#[derive(Clone, Copy)]
 pub enum Inputs {
     Read,
     Refused { answer: Answer },

@@ -1,4 +1,6 @@
 // The reader of instance files: what it accepts it decodes, into the arrays of a plan.
+#![tactic(auto)]
+
 ghost use Rattle.std.specs.Prelude.{◌≡◌, [], length, replicate};
 ghost use Rattle.fields.specs.Runs.{outcome, run_of};
 ghost use Rattle.numbers.specs.Bits.{bit};
@@ -14,28 +16,28 @@ use fields::{Field, SignedField, Step};
 use schema::{MOST_NODES, MOST_VARIABLES, Variable};
 
 // The bits of a value and the position after it, or a breach.
-#[derive(Drop)]
+#[derive(Clone, Copy)]
 enum ValueRead {
     Bits { bits: u32, next: usize },
     NoValue { number: u8, offset: usize },
 }
 
 // An entry's node, the nodes due after it, as bits, and the position after it; or a breach.
-#[derive(Drop)]
+#[derive(Clone, Copy)]
 enum EntryRead {
     One { node: usize, due: u64, next: usize },
     NoEntry { number: u8, offset: usize },
 }
 
 // The nodes that have an entry, as bits, and the position after the entries; or a breach.
-#[derive(Drop)]
+#[derive(Clone, Copy)]
 enum EntriesRead {
     All { nodes: u64, next: usize },
     NotAll { number: u8, offset: usize },
 }
 
 // The nodes that have an entry, as bits; or a breach.
-#[derive(Drop)]
+#[derive(Clone, Copy)]
 pub enum InstanceRead {
     Instance { nodes: u64 },
     NoInstance { number: u8, offset: usize },

@@ -1,4 +1,6 @@
 // Whether a node chooses, and which nodes it reaches.
+#![tactic(auto)]
+
 ghost use Rattle.std.specs.Prelude.{◌≡◌};
 ghost use Rattle.numbers.specs.Bits.{with_all};
 ghost use Rattle.schema.specs.Schema.{schema_of, node_at};

@@ -1,4 +1,6 @@
 // A record of passplan's input read, and a line of its output laid out.
+#![tactic(auto)]
+
 ghost use Rattle.std.specs.Prelude.{◌≡◌, [], ◌∷◌, ◌+◌, ◌*◌, ◌<◌, ◌≤◌, length};
 ghost use Rattle.fields.specs.Writing.{Wrote};
 ghost use Rattle.decimals.specs.Decimal.{decimal};
@@ -8,7 +10,7 @@ ghost use Rattle.lines.specs.Line.{hex, hex_digit, words, result_text, line_of, 
 use fields::{Field, Step};
 
 // A pass's first and last day and the position after its record, or a breach.
-#[derive(Drop)]
+#[derive(Clone, Copy)]
 pub enum PassRead {
     Days { a: u16, b: u16, next: usize },
     NoPass { number: u8, offset: usize },

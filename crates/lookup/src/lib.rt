@@ -1,4 +1,6 @@
 // How many bytes the values of an instance file have.
+#![tactic(auto)]
+
 ghost use Rattle.std.specs.Prelude.{◌≡◌};
 ghost use Rattle.schema.specs.Schema.{schema_of, node_at};
 ghost use Rattle.schema.specs.Table.{NodeIn, AtMost};

@@ -1,4 +1,6 @@
 // The tables of an accepted schema's nodes, by their length, and the accessors to its nodes.
+#![tactic(auto)]
+
 ghost use Rattle.std.specs.Prelude.{◌≡◌, true, ◌<◌, length};
 ghost use Rattle.schema.specs.Schema.{most_nodes, schema_of, node_at, variable_at, is_number};
 ghost use Rattle.schema.specs.declared.Variable.TheVariants.{Number};
@@ -21,7 +23,7 @@ pub const FEWEST_NODES: usize = 4;
 pub const FEWEST_TABLE_SLOTS: usize = NODE_SLOTS * FEWEST_NODES;
 
 // The least and the greatest value of a number.
-#[derive(Drop)]
+#[derive(Clone, Copy)]
 pub struct Bounds {
     pub lo: i32,
     pub hi: i32,

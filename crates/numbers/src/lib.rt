@@ -1,4 +1,6 @@
 // Signed bounds, masks of values and sets of nodes.
+#![tactic(auto)]
+
 ghost use Rattle.std.specs.Prelude.{◌≡◌, ◌*◌, ◌/◌, ◌^◌, ◌<◌, ◌≤◌, ltb};
 ghost use Rattle.numbers.specs.Bits.{bit, ones, with, turned, without, cardinality};
 ghost use Rattle.numbers.specs.Signs.{max_z, min_z};

@@ -1,5 +1,7 @@
 // A node's successors by column: a successor's column, whether all are in a set, and the pick among those of a set by
 // their ranks.
+#![tactic(auto)]
+
 ghost use Rattle.std.specs.Prelude.{◌≡◌, ◌+◌, ◌*◌, ◌<◌, ◌≤◌, min, max};
 ghost use Rattle.policies.specs.Policies.{most_policies};
 ghost use Rattle.schema.specs.Schema.{schema_of, node_at};
@@ -127,7 +129,7 @@ fn key_of(in_set: u8, rank: u8, k: usize) -> usize
 }
 
 // The least of the columns' keys, and the second least.
-#[derive(Drop)]
+#[derive(Clone, Copy)]
 struct Least {
     least: usize,
     second: usize,

@@ -1,4 +1,6 @@
 // Reads schema.bin, policies.bin and records PS of standard input, and prints a line for each.
+#![tactic(auto)]
+
 ghost use Rattle.std.specs.Prelude.{◌≡◌, ◌+◌, ◌*◌, ◌<◌, ◌≤◌, length};
 ghost use Rattle.io.specs.Counts.{IsPrefixLen};
 ghost use Rattle.lines.specs.Line.{Laid};
@@ -12,7 +14,7 @@ use libc::{STDIN_FILENO, STDOUT_FILENO};
 use lines::PassRead;
 
 // Where the lines end, and whether the run ends there too.
-#[derive(Drop)]
+#[derive(Clone, Copy)]
 pub struct Place {
     pub end: usize,
     pub last: bool,

@@ -1,5 +1,7 @@
 // The plan of an instance for the policies that rows note: which nodes are feasible, from the highest to 0, with their least
 // values, then which of them are reached and what these choose, and how long the instance's file is.
+#![tactic(auto)]
+
 ghost use Rattle.std.specs.Prelude.{◌≡◌, true, length, replicate};
 ghost use Rattle.schema.specs.Schema.{most_nodes, schema_of, node_at};
 ghost use Rattle.schema.specs.Table.{NodeIn, Accepted, Tabled, SetsIn, AtMost};
@@ -16,7 +18,7 @@ use policies::{RANKS, ROW_SLOTS};
 use schema::{MOST_NODES, MOST_SUCCESSORS};
 
 // What the noted policies come to: no instance meets them all, or one with an entry for each of these nodes, as bits.
-#[derive(Drop)]
+#[derive(Clone, Copy)]
 pub enum Plan {
     Infeasible,
     Feasible { nodes: u64 },

@@ -1,4 +1,6 @@
 // The pass, and the numbers of a policies file.
+#![tactic(auto)]
+
 ghost use Rattle.std.specs.Prelude.{◌≡◌};
 ghost use Rattle.fields.specs.Answers.{step_of};
 ghost use Rattle.policies.specs.Pass.{pass};

@@ -1,4 +1,6 @@
 // The reader of policies files.
+#![tactic(auto)]
+
 ghost use Rattle.std.specs.Prelude.{◌≡◌, ◌&&◌, ◌+◌, ◌*◌, ◌^◌, ◌<◌, ◌≤◌, length, drop, eqb, leb};
 ghost use Rattle.fields.specs.Reading.{be};
 ghost use Rattle.fields.specs.Runs.{outcome, run_of};
@@ -15,7 +17,7 @@ use policies::{MOST_POLICIES, ROW_SLOTS};
 use schema::NODE_SLOTS;
 
 // A policy's head and the position after it, or a breach.
-#[derive(Drop)]
+#[derive(Clone, Copy)]
 enum HeadRead {
     Found {
         first: u32,
@@ -30,14 +32,14 @@ enum HeadRead {
 }
 
 // A PN's node and the position after it, or a breach.
-#[derive(Drop)]
+#[derive(Clone, Copy)]
 enum RuleRead {
     Named { node: usize, next: usize },
     NoRule { number: u8, offset: usize },
 }
 
 // How far the PN of a policy were read: the lowest node that may follow, and the position.
-#[derive(Drop)]
+#[derive(Clone, Copy)]
 struct Progress {
     low: usize,
     at: usize,
@@ -391,7 +393,7 @@ fn read_policy(
 }
 
 // A turn of the walker: whether there was another policy, and where it ends; else 0 and the end of the file, or a breach.
-#[derive(Drop)]
+#[derive(Clone, Copy)]
 struct Turn {
     more: bool,
     number: u8,
@@ -453,7 +455,7 @@ fn ended(t: Turn) -> Step
 }
 
 // A walker over the policies file: its bytes and a position in them.
-#[derive(Drop)]
+#[derive(Clone, Copy)]
 struct Walker<'a> {
     bytes: &'a [u8],
     at: usize,

@@ -1,5 +1,7 @@
 // What the policies that rows note say of a node's successors: which of them are forbidden, how the ranks of two compare, and
 // rows of ranks that order them.
+#![tactic(auto)]
+
 ghost use Rattle.std.specs.Prelude.{◌≡◌, ◌+◌, ◌<◌, ◌≤◌, max, length, take};
 ghost use Rattle.schema.specs.Schema.{schema_of, node_at};
 ghost use Rattle.schema.specs.Table.{NodeIn};
@@ -13,7 +15,7 @@ use policies::{RANKS, ROW_SLOTS};
 use schema::MOST_SUCCESSORS;
 
 // How two ranks compare: the first is lower, which is preferred, or the second, or neither.
-#[derive(Drop)]
+#[derive(Clone, Copy)]
 pub enum RankOrder {
     Before,
     After,

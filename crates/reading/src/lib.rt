@@ -1,4 +1,6 @@
 // Fields of the three files, taken in turn by their readers.
+#![tactic(auto)]
+
 ghost use Rattle.std.specs.Prelude.{◌≡◌};
 ghost use Rattle.fields.specs.Reading.{whole, mark};
 ghost use Rattle.fields.specs.Answers.{field_of, signed_of, step_of};

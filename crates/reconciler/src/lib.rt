@@ -1,4 +1,6 @@
 // The reconciler: schema, policies and pass are read, an instance is planned for the policies in force, and its file written.
+#![tactic(auto)]
+
 ghost use Rattle.std.specs.Prelude.{◌≡◌, ◌≤◌, ltb};
 ghost use Rattle.fields.specs.Outcomes.{Did};
 ghost use Rattle.schema.specs.Schema.{schema_of};

@@ -1,4 +1,6 @@
 // The reader of what a PN says of its node: the ranks and conditions, field by field.
+#![tactic(auto)]
+
 ghost use Rattle.std.specs.Prelude.{◌≡◌};
 ghost use Rattle.fields.specs.Answers.{step_of};
 ghost use Rattle.schema.specs.Schema.{schema_of, node_at};

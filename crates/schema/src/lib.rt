@@ -1,4 +1,6 @@
 // The reader of schema files: it fills, as it reads, a table of what the crates above ask of each node, and the sets of successors.
+#![tactic(auto)]
+
 ghost use Rattle.std.specs.Prelude.{◌≡◌, cond, ◌+◌, ◌-◌, ◌≤◌, eqb};
 ghost use Rattle.fields.specs.Runs.{outcome, run_of};
 ghost use Rattle.schema.specs.Schema.{most_nodes, number, listed, variable, variables, variables_of, successors, links, node, nodes, body, schema};
@@ -31,14 +33,14 @@ const RANGE_WIDTH: usize = 8;
 const MASK_WIDTH: usize = 4;
 
 // A variable of a node.
-#[derive(Drop)]
+#[derive(Clone, Copy)]
 pub enum Variable {
     Number { lo: i32, hi: i32 },
     Listed { size: u8 },
 }
 
 // A variable and the position after it, or a breach.
-#[derive(Drop)]
+#[derive(Clone, Copy)]
 enum VariableRead {
     Number { lo: i32, hi: i32, next: usize },
     Listed { size: u8, next: usize },
@@ -46,7 +48,7 @@ enum VariableRead {
 }
 
 // The same of a node's successors, as a set and how many.
-#[derive(Drop)]
+#[derive(Clone, Copy)]
 enum LinksRead {
     Linked { set: u64, count: usize, next: usize },
     NoLinks { number: u8, offset: usize },

@@ -1,4 +1,6 @@
 // The call that lays an instance out on the console sheet.
+#![tactic(auto)]
+
 ghost use Rattle.std.specs.Prelude.{◌≡◌};
 ghost use Rattle.fields.specs.Answers.{judged};
 ghost use Rattle.fields.specs.Outcomes.{Did, leaving, placed};

@@ -1,4 +1,6 @@
 // The writer of instance files.
+#![tactic(auto)]
+
 ghost use Rattle.std.specs.Prelude.{◌≡◌, ◌+◌, ◌*◌, ◌≤◌, length};
 ghost use Rattle.fields.specs.Writing.{Wrote};
 ghost use Rattle.schema.specs.Schema.{schema_of, node_at};

@@ -1,4 +1,6 @@
 // Fields of the three files, put in turn by their writers.
+#![tactic(auto)]
+
 ghost use Rattle.std.specs.Prelude.{◌≡◌, ◌+◌, ◌≤◌, length};
 ghost use Rattle.fields.specs.Writing.{spell, unsigned, letters, put};
 
