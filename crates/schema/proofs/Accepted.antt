@@ -41,7 +41,7 @@ stands-cons s count own p {x} {g} {m} here e l = record { each = at }
     at zero h = rw (add-zero own) (here ∙ ap (λ (n : ℕ). got x n) e)
     at (suc j) h =
         let z : own + 1 + j ≡ own + suc j = omega arith in
-        rw (← z, ← e) (l.each j (omega arith))
+        rw (← z) (subst (λ (n : ℕ). node s count (own + 1 + j) (node_place n g j) ≡ got (node_at g j) (node_place n g (suc j))) e (l.each j (omega arith)))
 
 pub nodes-back : (s : List ℕ) (count k own p : ℕ) {g : List Node} {q : ℕ} → many (node s count) (λ own _. own + 1) k own p ≡ got g q → Stands s count own p g
 nodes-back s count zero own p e =
