@@ -81,7 +81,11 @@ class Function:
             name = m.group(2)
             return m.group(1) + "." + self.steps.get(name.replace("_", "-"), name)
 
-        return re.sub(r"(?<![\w'.-])(c|w|k)\.([\w'-]+)", step, text)
+        text = re.sub(r"(?<![\w'.-])(c|w|k)\.([\w'-]+)", step, text)
+        own = self.clauses.get((self.crate, self.name), {}).get("requires", [])
+        if len(own) > 1 and all(own):
+            text = re.sub(r"\bc\.requires\.(\d+)", lambda m: "c.requires." + own[int(m.group(1))], text)
+        return text
 
     def goal(self, need):
         key = need.replace("_", "-")
