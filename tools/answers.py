@@ -54,6 +54,20 @@ def split_tuple(term):
     return parts if len(parts) > 1 else None
 
 
+def labelled(labels, path):
+    """The older path into clauses joined two by two, by the clause's label."""
+    steps = path.strip(".").split(".")
+    i = 0
+    while steps:
+        step = steps.pop(0)
+        if step == "0":
+            break
+        i += 1
+        if i == len(labels) - 1:
+            break
+    return "." + labels[i] + "".join("." + s for s in steps)
+
+
 class Function:
     def __init__(self, crate, name, names, clauses):
         self.crate, self.name, self.names, self.clauses = crate, name, names, clauses
@@ -84,7 +98,7 @@ class Function:
         text = re.sub(r"(?<![\w'.-])(c|w|k)\.([\w'-]+)", step, text)
         own = self.clauses.get((self.crate, self.name), {}).get("requires", [])
         if len(own) > 1 and all(own):
-            text = re.sub(r"\bc\.requires\.(\d+)", lambda m: "c.requires." + own[int(m.group(1))], text)
+            text = re.sub(r"\bc\.requires((?:\.[01])+)", lambda m: "c.requires" + labelled(own, m.group(1)), text)
         return text
 
     def goal(self, need):
