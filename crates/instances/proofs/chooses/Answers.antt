@@ -1,0 +1,7 @@
+-- A node chooses where a PN of it has ranks.
+-- Rests on chooses-ranked.
+use Rattle.instances.proofs.Node.{chooses-ranked}
+use Rattle.instances.proofs.chooses.Goals as goal
+
+pub returns : goal.returns
+returns c = search chooses-ranked
