@@ -227,6 +227,7 @@ module _ (g : List Node) (sound : Sound g) where
 
   later : {es rest : List Entry} → Follows g es rest → Above g es → (d : Entry) → Memᴰ d rest → (k : ℕ) → has es k ≡ true → k < d.node
   unfolding has
+  later (none_left {es = es} _) a d m k t = elim m [ ]
   later {es} (and_then e l c f) a d (Memᴰ.head q) k t =
       subst (λ (x : Entry). k < x.node) (sym q) (a.above k e.node t (lowest-due g es e.node l))
   later {es} (and_then e l c f) a d (Memᴰ.tail m) k t =
