@@ -122,7 +122,7 @@ class Function:
             return None
         new, variables = loops[loop]
         changed = self.names["changed"][[o.replace("_", "-") for (o, _), _ in self.names["loops"]].index(loop)]
-        params = m.group(1).split()
+        params = [p for p in m.group(1).split() if not re.fullmatch(r"t\d+", p)]
         want = [f"l.initial.{v}" if ch else f"l.{v}" for v, ch in zip(variables, changed)] + [f"l.{v}" for v, ch in zip(variables, changed) if ch]
         body = m.group(2).strip()
         if len(params) != len(want):
@@ -154,6 +154,9 @@ class Function:
             return None
         parts = split_tuple(term)
         labels = self.labels(need, parts)
+        while parts and not labels and split_tuple(parts[-1]):
+            parts = parts[:-1] + split_tuple(parts[-1])
+            labels = self.labels(need, parts)
         if parts and labels:
             out = []
             for part, label in zip(parts, labels):
