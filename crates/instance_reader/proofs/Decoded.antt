@@ -66,6 +66,7 @@ choice-none i n h e = fill-other i (replicate 64 255) n (λ q. never (sym e ∙ 
 -- else its entry's choice
 fill-at : (es : List Entry) (t : List ℕ) → Ascending es → (e : Entry) → Memᴰ e es → e.node < length t → get_or (fill_choices t es) e.node 0 ≡ e.choice
 unfolding fill_choices
+fill-at [] t a e m h = elim m [ ]
 fill-at (d ∷ es) t a e (Memᴰ.head q) h =
     ap (λ (x : Entry). get_or (fill_choices (set t d.node d.choice) es) x.node 0) q
     ∙ fill-other es (set t d.node d.choice) d.node (λ y. let w = has-mem es d.node y in let z = a.0 w.0 w.1 in let v = w.2 in omega arith)
@@ -165,6 +166,7 @@ module _ (g : List Node) (sd : Sound g) where
   fill-values : (es : List Entry) (t : Tables) → Ascending es → (e : Entry) → Memᴰ e es → RightEntry g e → 4 * e.node + 4 ≤ length t.bits
       → values_from (node_at g e.node).variables (fill_entries g es t).bits (4 * e.node) ≡ e.values
   unfolding fill_entries fill_bits
+  fill-values [] t a e m r l = elim m [ ]
   fill-values (d ∷ es) t a e (Memᴰ.head q) r l =
       let vs = (node_at g e.node).variables in
       let few = few-variables g sd e.node in

@@ -17,9 +17,8 @@ pub returns-in-Bad : goal.returns-in-Bad
 returns-in-Bad c = search of_entry
 
 pub returns-in-Next : goal.returns-in-Next
-returns-in-Next c = rest_ok _ _ _ _ _ _ _ c.read_u8.ensures c.value-1.given.1
-    c.right_choice.ensures _ c.if-right_choice.true
-    c.read_values.ensures c.at-1.given.1 c.turned_bit.ensures c.reach.ensures
+returns-in-Next c = rest_ok _ _ _ _ _ _ _ c.read_u8.ensures c.in-Value.is c.right_choice.ensures _ c.if-right_choice.true
+    c.read_values.ensures c.in-Next.is c.turned_bit.ensures c.reach.ensures
 
 pub returns-else-right_choice : goal.returns-else-right_choice
 returns-else-right_choice c = search of_entry
