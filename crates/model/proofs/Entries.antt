@@ -34,6 +34,7 @@ entry-mem (d ∷ i) n e q = go (eqb d.node n) refl (entry-mem i n e) q
 
 pub mem-entry : (i : List Entry) → Ascending i → {e : Entry} → Memᴰ e i → entry_at i e.node ≡ some e
 unfolding entry_at
+mem-entry [] a m = elim m [ ]
 mem-entry (d ∷ i) a {e} (Memᴰ.head q) =
     subst (λ (x : Entry). cond (eqb d.node x.node) (some d) (entry_at i x.node) ≡ some x) (sym q) (rw (eq-eqb d.node d.node refl) refl)
 mem-entry (d ∷ i) a {e} (Memᴰ.tail m) = go (eqb d.node e.node) refl (mem-entry i a.1 m)

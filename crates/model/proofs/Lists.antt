@@ -16,7 +16,7 @@ use Rattle.model.specs.Satisfaction.{every}
 
 -- ---- every one of a list passes
 
-pub every-mem : {A : Type 0} (ok : A → Bool) {l : List A} {x : A} → every ok l ≡ true → Memᴰ x l → ok x ≡ true
+pub every-mem : {A : Type 0} (ok : A → Bool) {x : A} {l : List A} → every ok l ≡ true → Memᴰ x l → ok x ≡ true
 every-mem ok t (Memᴰ.head {x = y} {xs = l} e) = ap ok e ∙ (and-true (ok y) (every ok l) t).0
 every-mem ok t (Memᴰ.tail {x = y} {xs = l} m) = every-mem ok (and-true (ok y) (every ok l) t).1 m
 

@@ -78,7 +78,7 @@ module _ (ok : ℕ → Bool) (better : ℕ → ℕ → Bool) where
         aside s m = which (elem-cons s x l m)
           where
             which : (s ≡ x) ⊎ (elem s l ≡ true) → elem s (x ∷ y ∷ l) ≡ true
-            which (inl q) = rw q (elem-head x (y ∷ l))
+            which (inl q) = subst (λ (v : ℕ). elem v (x ∷ y ∷ l) ≡ true) (sym q) (elem-head x (y ∷ l))
             which (inr q) = elem-tail s x (y ∷ l) (elem-tail s y l q)
 
         parts : (s : ℕ) → elem s (x ∷ y ∷ l) ≡ true → (s ≡ y) ⊎ (elem s (x ∷ l) ≡ true)
@@ -89,7 +89,7 @@ module _ (ok : ℕ → Bool) (better : ℕ → ℕ → Bool) where
             rest (inr q) = inr (elem-tail s x l q)
 
             which : (s ≡ x) ⊎ (elem s (y ∷ l) ≡ true) → (s ≡ y) ⊎ (elem s (x ∷ l) ≡ true)
-            which (inl q) = inr (rw q (elem-head x l))
+            which (inl q) = inr (subst (λ (v : ℕ). elem v (x ∷ l) ≡ true) (sym q) (elem-head x l))
             which (inr q) = rest (elem-cons s y l q)
 
         go : (z : ℕ) → Top (x ∷ l) z → (b : Bool) → ok y && better y z ≡ b → (v : ℕ) × Top (x ∷ y ∷ l) v
