@@ -1,4 +1,3 @@
-mod Again
 mod Body
 mod Rules
 mod File

@@ -1,0 +1,20 @@
+-- Each return is one of the tests.
+-- Rests on the laws of the tests of a PN.
+use Rattle.fields.proofs.Shorts.{element-wide}
+use Rattle.policy_reader.proofs.Body.{good-not, good-bare, good-masks, good-looking}
+use Rattle.policy_reader.proofs.is_good.Goals as goal
+
+pub overflow_cast-table : goal.overflow_cast-table
+overflow_cast-table c = search element-wide
+
+pub returns-then-table-n-eq0 : goal.returns-then-table-n-eq0
+returns-then-table-n-eq0 c = search good-bare
+
+pub masks_good-requires : goal.masks_good-requires
+masks_good-requires c = search good-looking
+
+pub returns-then-is_whole : goal.returns-then-is_whole
+returns-then-is_whole c = search good-masks
+
+pub returns : goal.returns
+returns c = search good-not
