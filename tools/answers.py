@@ -89,6 +89,10 @@ class Function:
 
     def path(self, text):
         """Paths into c, by the new names of the steps."""
+        alias = r"let (\w+) = (\w+)(?:\.before)* in\s+"
+        names = {"c"}
+        while (m := re.search(alias, text)) and m.group(2) in names:
+            text = text[: m.start()] + re.sub(r"(?<!\.)" + NAME % re.escape(m.group(1)) if m.group(1) != "c" else r"(?!)", "c", text[m.end() :])
         text = re.sub(r"(?:\.before)+(?![\w-])", "", text)
 
         def step(m):

@@ -1,0 +1,10 @@
+-- The offsets from here on are left to ask.
+use Prim.Native.Nat.{◌-◌}
+use Rattle.conditions.proofs.Admitting.{Admitting, mask_ok}
+use Rattle.conditions.proofs.masks_admit.Given as goal
+
+abbrev pub invariant-loop-r : goal.invariant-loop-r
+invariant-loop-r l = Admitting (mask_ok l.p l.skip l.x) l.count l.offsets l.r
+
+abbrev pub decreases-loop-r : goal.decreases-loop-r
+decreases-loop-r l = l.count - l.r
