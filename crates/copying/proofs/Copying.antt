@@ -1,11 +1,10 @@
 -- A file in a buffer; an accepted instance file is the encoding of what was read, so its copy is a copy of the bytes.
--- Rests on the law of `copy` of the kit's bytes, and on `read-encode` of the instances' round trip.
-use mathlib.Core.Path.{◌≡◌, ap, sym, subst, ◌∙◌}
+-- Rests on what std's `copy_from_slice` ensures, and on `read-encode` of the instances' round trip.
+use mathlib.Core.Path.{◌≡◌, refl, ap, sym, subst, ◌∙◌}
 use mathlib.Core.List.{List, ◌++◌}
 use Prim.Native.Nat.{ℕ, ◌≤◌}
 use borrow.Author.Tests.{le-leb}
-use lib.ListN.{length, take, drop}
-use lib.Seq.{take-length}
+use lib.ListN.{length, drop}
 use Rattle.fields.specs.Answers.{success, judged}
 use Rattle.fields.specs.Outcomes.{Did, leaving, placed}
 use Rattle.fields.specs.declared.Answer.{Answer}
@@ -20,14 +19,11 @@ use Rattle.instance_reader.proofs.Decoded.{an-instance}
 
 -- ---- a file in a buffer
 
-pub deliver-fits : (file out : List ℕ) {r : Answer} {l : ℕ} {c : List ℕ} → length file ≤ length out → (l ≡ length file) × (c ≡ take (length file) file ++ drop (length file) out) → r ≡ success l → Did (placed file out) r c
+pub deliver-fits : (file out : List ℕ) {r : Answer} {c : List ℕ} → length file ≤ length out → c ≡ file → r ≡ success (length file) → Did (placed file out) r (c ++ drop (length file) out)
 unfolding placed
 deliver-fits file out h e i =
     let t = le-leb (length file) (length out) h in
-    record {
-      answer = i ∙ rw t (ap success e.0);
-      buffer = rw t (e.1 ∙ ap (λ (y : List ℕ). y ++ drop (length file) out) (take-length file));
-    }
+    record { answer = i ∙ rw t refl; buffer = rw t (ap (λ (y : List ℕ). y ++ drop (length file) out) e) }
 
 -- ---- the instance that was read
 
