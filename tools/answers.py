@@ -179,8 +179,9 @@ class Function:
             found = self.clauses.get((self.crate, self.name), {}).get("ensures", [])
         else:
             callee = re.sub(r"-requires.*$", "", need).replace("-", "_")
-            found = [k["requires"] for (c, f), k in self.clauses.items() if f == callee and len(k["requires"]) == len(parts)]
-            found = found[0] if found and all(x == found[0] for x in found) else (self.clauses.get((self.crate, callee), {}).get("requires", []))
+            own = self.clauses.get((self.crate, callee))
+            others = [k["requires"] for (c, f), k in self.clauses.items() if f == callee and len(k["requires"]) == len(parts)]
+            found = own["requires"] if own else others[0] if others and all(x == others[0] for x in others) else []
         return found if len(found) == len(parts) and all(found) else None
 
     def written(self, goal, opened, term):
