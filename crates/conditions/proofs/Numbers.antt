@@ -10,7 +10,6 @@ use borrow.Author.Tests.{eqb-true, eq-eqb, ne_eqb}
 use lib.Dec.{eqb}
 use lib.ListN.{length, get_or, take}
 use lib.Seq.{ext_get_or}
-use lib.IntN.{ℤ}
 use lib.Signed.{mag}
 use mir.Syntax.{w32, w64}
 use mir.Val.{Fits, to_z, of_z}
@@ -20,7 +19,7 @@ use Rattle.schema.specs.Schema.{Node, schema_of, node_at, no_variable, variable_
 use Rattle.schema.specs.Table.{NodeIn, AtMost}
 use Rattle.schema.specs.declared.Variable.{Variable}
 use Rattle.schema.specs.declared.Variable.TheVariants.{Number, Listed}
-use Rattle.schema.specs.Layout.{rank_count, span, spans, offset_of, masks_of, Laid}
+use Rattle.schema.specs.Layout.{rank_count, span, spans, offset_of, masks_of}
 use Rattle.schema.proofs.Access.{laid}
 use Rattle.nodes.specs.declared.Bounds.{Bounds}
 use Rattle.policies.specs.Policies.{Condition, range, mask, Policy}

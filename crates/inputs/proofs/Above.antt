@@ -10,7 +10,7 @@ use Rattle.fields.specs.Answers.{judged, success, refusal}
 use Rattle.fields.specs.Outcomes.{Outcome, Did, leaving}
 use Rattle.fields.specs.declared.Answer.{Answer}
 use Rattle.fields.proofs.Judged.{did-same, refused_did}
-use Rattle.schema.specs.Schema.{Node, schema_of}
+use Rattle.schema.specs.Schema.{schema_of}
 use Rattle.schema.specs.Table.{Accepted, AtMost}
 use Rattle.schema.proofs.Accepted.{file-of}
 use Rattle.policies.specs.Policies.{Policy, policies, policies_of}

@@ -1,6 +1,6 @@
 -- Each way that policies and pass can end.
 -- Rests on what the readers' contracts tell.
-use mathlib.Core.Path.{◌≡◌, refl, ap, sym, ◌∙◌}
+use mathlib.Core.Path.{◌≡◌, ap}
 use mathlib.Core.List.{List}
 use Prim.Native.Nat.{ℕ}
 use lib.ListN.{length}

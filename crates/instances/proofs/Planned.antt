@@ -16,7 +16,7 @@ use Rattle.schema.proofs.Sound.{Sound}
 use Rattle.instances.specs.Instance.{Entry, elem, reaches, right_choice, has}
 use Rattle.instances.specs.File.{reached, due, lowest_due, encode, most_bytes}
 use Rattle.instances.specs.Plan.{planned_from, planned}
-use Rattle.instances.proofs.IsInstance.{in_domains, Reached, root, on, RightEntry, IsInstance}
+use Rattle.instances.proofs.IsInstance.{in_domains, Reached, on, RightEntry, IsInstance}
 use Rattle.instances.proofs.Lengths.{encode-length}
 use Rattle.instances.proofs.Valid.{Follows, none_left, and_then, at_none, Reaches, mem-none, due-reached, reached-due, due-cases, due-lowest, reaches-in, follows_is}
 

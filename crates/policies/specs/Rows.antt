@@ -1,5 +1,5 @@
 -- Which of the selected policies name each node, by the offsets of their PN; and the policies that such rows note.
-use Rattle.std.specs.Prelude.{ℕ, zero, suc, ◌+◌, ◌*◌, ◌%◌, ◌<◌, ◌≤◌, ◌≡◌, Bool, true, false, cond, List, [], ◌∷◌, ◌++◌, length, get_or, set, take, drop, replicate}
+use Rattle.std.specs.Prelude.{ℕ, zero, suc, ◌+◌, ◌*◌, ◌<◌, ◌≤◌, ◌≡◌, Bool, true, false, cond, List, [], ◌∷◌, ◌++◌, length, get_or, set, take, drop, replicate}
 use Rattle.fields.specs.Reading.{Got, got, bad}
 use Rattle.fields.specs.Shorts.{short}
 use Rattle.schema.specs.Schema.{Node, schema_of, node_at}

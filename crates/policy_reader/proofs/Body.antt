@@ -8,14 +8,14 @@ use native.Mathlib.Omega.{arith}
 use native.Mathlib.Nat.{add-zero, zero-add}
 use borrow.Author.Tests.{leb-true, le-leb, lt-leb, lt-ltb, ltb-true, eq-eqb, ne_eqb, eqb-true}
 use lib.ListN.{length, get_or}
-use lib.Dec.{leb, ltb, eqb}
+use lib.Dec.{leb, eqb}
 use mir.Val.{Fits}
 use mir.Syntax.{w64}
 use Rattle.fields.specs.Reading.{got, part, be, whole, field, many, signed}
 use Rattle.fields.specs.Answers.{step_of}
 use Rattle.fields.specs.declared.Step.TheVariants.{Next}
 use Rattle.fields.proofs.Reading.{whole-got}
-use Rattle.fields.proofs.Tests.{and-true, and_no, and-no-2, and_yes, or_yes}
+use Rattle.fields.proofs.Tests.{and-true, and_no, and_yes, or_yes}
 use Rattle.numbers.proofs.Bits.{part-size, spare-within}
 use Rattle.schema.specs.Schema.{Node, schema_of, node_at, no_variable}
 use Rattle.schema.specs.declared.Variable.{Variable}

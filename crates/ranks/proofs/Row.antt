@@ -1,7 +1,7 @@
 -- What the row of a node tells of its ranks: which columns are forbidden, how two compare, and the order that rows of ranks make.
 -- Rests on what the row tells and on the ranks at its offsets, in policies, and on the model's laws of tests and orders by PN.
 use mathlib.Core.Path.{◌≡◌, refl, ap, ap₂, sym, ◌∙◌}
-use mathlib.Core.Bool.{Bool, true, false, not, ◌&&◌}
+use mathlib.Core.Bool.{Bool, true, not, ◌&&◌}
 use mathlib.Core.List.{List, [], ◌∷◌, map}
 use Prim.Native.Nat.{ℕ, suc, ◌+◌, ◌≤◌, ◌<◌}
 use native.Mathlib.Omega.{arith}

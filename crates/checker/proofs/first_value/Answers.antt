@@ -1,6 +1,5 @@
 -- The values from here on are left to judge.
 -- Rests on the laws of the loop, in Values, and on the room of a node's slots.
-use Prim.Native.Nat.{◌-◌}
 use Rattle.instances.proofs.Slots.{node-slots, slot-room, slot-fits, slot-bytes}
 use Rattle.checker.proofs.Values.{judging-init, judging-below, judging-place, judging-no, number_fits, judging-number, listed-fits, judging-listed, judging-exit}
 use Rattle.checker.proofs.first_value.Goals as goal

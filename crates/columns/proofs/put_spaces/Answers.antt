@@ -1,6 +1,5 @@
 -- With the spaces from here to the end put, the buffer is what it shall be.
 -- Rests on Putting of the crate fields.
-use Prim.Native.Nat.{◌-◌}
 use Rattle.columns.proofs.Columns.{spaces-init, spaces-room, spaces-step, spaces-exit}
 use Rattle.columns.proofs.put_spaces.Goals as goal
 

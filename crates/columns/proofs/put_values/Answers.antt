@@ -1,6 +1,5 @@
 -- With the columns of the values from variable k on put from here, the buffer is what it shall be; the last of them are blank.
 -- Rests on what the schema's accessors answer.
-use Prim.Native.Nat.{◌-◌}
 use Rattle.instances.proofs.Slots.{node-slots, slot-room, slot-fits, slot-bytes}
 use Rattle.columns.proofs.Lines.{values-init, values-step, values-exit}
 use Rattle.columns.proofs.put_values.Goals as goal

@@ -1,6 +1,5 @@
 -- From node n up the flags of the reached nodes are right, whatever instances have these choices.
 -- Rests on the laws of the sweep over the nodes, in Flagging.
-use borrow.Author.Rules.{rules}
 use Rattle.comparison.proofs.Flagging.{flagging-init, flagging-node, flagging-small, flagging-long, flagging-step, flagging-exit}
 use Rattle.comparison.proofs.as_good.Goals as goal
 

@@ -1,6 +1,5 @@
 -- The offsets from here on are left for each of the four.
 -- Rests on the laws of a turn, in Numbers.
-use Prim.Native.Nat.{◌-◌}
 use Rattle.fields.proofs.Shorts.{element-wide}
 use Rattle.conditions.proofs.Numbers.{four_below, four-number, four-init, four-inside, first-room, next-room, next_fits, four-step, four-exit}
 use borrow.Author.Rules.{rules}

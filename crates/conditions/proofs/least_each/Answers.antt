@@ -1,9 +1,7 @@
 -- The variables before this one have their least values in their slots.
 -- Rests on the laws of a turn, in Least.
-use Prim.Native.Nat.{◌-◌}
 use native.Mathlib.Omega.{arith}
 use Rattle.schema.proofs.Access.{node-small}
-use Rattle.policies.specs.Rows.{rules_at}
 use Rattle.conditions.proofs.Least.{finding-init, finding-exit, finding-slot, finding-empty, finding-range, finding-no-bit, finding-mask, turn_below, size_small, range-bytes, mask-bytes}
 use borrow.Author.Rules.{rules}
 use Rattle.conditions.proofs.least_each.Goals as goal

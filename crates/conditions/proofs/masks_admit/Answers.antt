@@ -1,6 +1,5 @@
 -- The offsets from here on are left to ask.
 -- Rests on the laws of a turn, in Admitting.
-use Prim.Native.Nat.{◌-◌}
 use Rattle.fields.proofs.Shorts.{element-wide}
 use Rattle.policies.proofs.Offsets.{stretch-inside, stretch-room}
 use Rattle.conditions.proofs.Admitting.{admitting-init, masks-no, masks-step, masks-exit}

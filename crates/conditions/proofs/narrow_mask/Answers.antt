@@ -1,6 +1,5 @@
 -- The offsets from here on are left.
 -- Rests on the laws of a turn, in Narrowing.
-use Prim.Native.Nat.{◌-◌}
 use Rattle.fields.proofs.Shorts.{element-wide}
 use Rattle.policies.proofs.Offsets.{stretch-inside, stretch-room}
 use Rattle.conditions.proofs.Narrowing.{mask-init, mask_step, mask-exit}

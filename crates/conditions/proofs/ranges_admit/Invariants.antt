@@ -1,7 +1,5 @@
 -- The offsets from here on are left to ask.
 use Prim.Native.Nat.{◌-◌}
-use mir.Syntax.{w32}
-use mir.Val.{to_z}
 use Rattle.conditions.proofs.Admitting.{Admitting, range_ok}
 use Rattle.conditions.proofs.ranges_admit.Given as goal
 

@@ -1,6 +1,5 @@
 -- Whether x stands among the successors from j on equals whether it stands among all.
 -- Rests on what the schema's accessors answer.
-use Prim.Native.Nat.{◌-◌}
 use Rattle.instance_reader.proofs.Reader.{has-found, has_more, has_done}
 use Rattle.instance_reader.proofs.has_successor.Goals as goal
 

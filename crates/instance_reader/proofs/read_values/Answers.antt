@@ -1,6 +1,5 @@
 -- What is left to read and to fill from variable k on equals the whole.
 -- Rests on what the schema's accessors answer, and on the room of a node's slots.
-use Prim.Native.Nat.{◌-◌}
 use Rattle.instances.proofs.Slots.{node-slots, slot-fits, slot-bytes}
 use Rattle.instance_reader.proofs.Reader.{values-init, values-room, values_same, values-bad, values-step, values-exit}
 use Rattle.instance_reader.proofs.read_values.Goals as goal

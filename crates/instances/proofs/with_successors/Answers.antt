@@ -1,6 +1,5 @@
 -- The successors from j on, added to what is there, make the whole.
 -- Rests on what the schema's accessors answer.
-use Prim.Native.Nat.{◌-◌}
 use Rattle.instances.proofs.Node.{with-more, with-done}
 use Rattle.instances.proofs.with_successors.Goals as goal
 

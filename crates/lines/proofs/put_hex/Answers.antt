@@ -1,7 +1,6 @@
 -- With the bytes from i on put from here, the buffer is what it shall be.
 -- Rests on the laws of `put`.
 use borrow.Author.Rules.{rules}
-use Prim.Native.Nat.{◌-◌}
 use lib.ListN.{length-set}
 use native.Mathlib.Omega.{arith}
 use Rattle.lines.proofs.Writing.{hex-init, hex-room, hex-step, hex-exit}

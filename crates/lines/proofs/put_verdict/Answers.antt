@@ -10,10 +10,10 @@ put_number-at-requires-2 c = omega (arith, byte-end c.put_number-at.ensures c.ra
 
 pub put_number-requires : goal.put_number-requires
 put_number-requires c = omega (
-      arith,
-      byte-end c.put_number-at.ensures c.ranges.number.fits,
-      byte-end c.put_number-at-2.ensures c.ranges.file.fits,
-    )
+  arith,
+  byte-end c.put_number-at.ensures c.ranges.number.fits,
+  byte-end c.put_number-at-2.ensures c.ranges.file.fits,
+)
 
 pub returns : goal.returns
 returns c = search (verdict-wrote, rules)

@@ -1,7 +1,6 @@
 -- What was summed and the widths from variable k on make the whole.
 -- Rests on what the schema's accessors answer.
 use borrow.Author.Rules.{rules}
-use Prim.Native.Nat.{◌-◌}
 use Rattle.lookup.proofs.Lookup.{summed-init, summed-step, summed-fits, summed-exit}
 use Rattle.lookup.proofs.values_width.Goals as goal
 

@@ -1,6 +1,5 @@
 -- Whether those from here on are in the set is whether all are.
 -- Rests on the laws of the loop, in Successors.
-use Prim.Native.Nat.{◌-◌}
 use Rattle.order.proofs.Successors.{successor-small, all-no, all-on, all_done}
 use borrow.Author.Rules.{rules}
 use Rattle.order.proofs.all_in.Goals as goal

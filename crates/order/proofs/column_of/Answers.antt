@@ -1,6 +1,5 @@
 -- The successors from here on are left to compare.
 -- Rests on the laws of the search, in Successors.
-use Prim.Native.Nat.{◌-◌}
 use Rattle.order.proofs.Successors.{seeking-none, seeking-found, seeking-more, seeking-done}
 use Rattle.order.proofs.column_of.Goals as goal
 

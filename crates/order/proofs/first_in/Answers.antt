@@ -1,6 +1,5 @@
 -- The first so far is in the set, and none of the columns passed that is in it beats it.
 -- Rests on the laws of the scan, in Best.
-use Prim.Native.Nat.{◌-◌}
 use Rattle.order.proofs.Best.{first-none, first-in, first_out, first_done}
 use borrow.Author.Rules.{rules}
 use Rattle.order.proofs.first_in.Goals as goal

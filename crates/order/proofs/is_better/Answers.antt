@@ -1,6 +1,5 @@
 -- What the rows from here on decide is what all decide.
 -- Rests on the laws of the loop over the rows.
-use Prim.Native.Nat.{◌-◌}
 use Rattle.order.proofs.Rows.{better-start, better-less, better-more, better-on, better-done}
 use Rattle.order.proofs.is_better.Goals as goal
 

@@ -1,6 +1,5 @@
 -- The least key and the second least of the columns passed.
 -- Rests on the laws of the scan, in Keys.
-use Prim.Native.Nat.{◌-◌}
 use Rattle.order.proofs.Keys.{two_none, two-more, two-done}
 use borrow.Author.Rules.{rules}
 use Rattle.order.proofs.two_least.Goals as goal

@@ -1,6 +1,5 @@
 -- The nodes taken and the entries of those left make the whole; the lowest of them rises.
 -- Rests on Reaching.
-use Prim.Native.Nat.{◌-◌}
 use Rattle.planning.proofs.Node.{node-chooses}
 use Rattle.planning.proofs.Reaching.{choosing-init, choosing-node, choosing-slot, choosing-choice, choice-below, choice-small, choosing-step, choosing-less, choosing-set, choosing-all, choosing-all-less, choosing-exit}
 use Rattle.planning.proofs.choose_nodes.Goals as goal

@@ -1,7 +1,6 @@
 -- Node by node; the sum is that of the nodes that were passed.
 -- Rests on Summing.
 use borrow.Author.Rules.{rules}
-use Prim.Native.Nat.{◌-◌}
 use Rattle.planning.proofs.Measuring.{summing-init, summing-small, summing-node, summing-head-fits, summing-fits, summing-take, summing-skip, summing-exit}
 use Rattle.planning.proofs.entries_length.Goals as goal
 

@@ -1,6 +1,5 @@
 -- The columns so far have their marks.
 -- Rests on the laws of the set, in Tables.
-use Prim.Native.Nat.{◌-◌}
 use Rattle.order.proofs.Successors.{successor-small}
 use Rattle.planning.proofs.Tables.{marking-init, marking-in, marking-out, marking-exit}
 use borrow.Author.Rules.{rules}

@@ -1,6 +1,5 @@
 -- The set has lost what is forbidden in the columns so far.
 -- Rests on the laws of the columns, in Bans.
-use Prim.Native.Nat.{◌-◌}
 use Rattle.planning.proofs.Bans.{dropping-init, dropping-inside, dropping-keep, dropping-step, dropping-exit, allowed-unnamed, allowed-unbanned}
 use Rattle.planning.proofs.Node.{node-columns}
 use Rattle.planning.proofs.keep_allowed.Goals as goal

@@ -10,8 +10,9 @@ use Rattle.policy_reader.proofs.read_policies.Given as goal
 
 abbrev pub invariant-loop-w : goal.invariant-loop-w
 invariant-loop-w l = record {
-    bytes : l.w.bytes.now ≡ l.p;
-    left : Leaves (schema_of l.schema) l.p l.a l.b l.j l.w.at l.rows (run_of (note_policies (in_force l.a l.b) 0) (policies (schema_of l.schema) l.p) l.initial.rows) }
+  bytes : l.w.bytes.now ≡ l.p;
+  left : Leaves (schema_of l.schema) l.p l.a l.b l.j l.w.at l.rows (run_of (note_policies (in_force l.a l.b) 0) (policies (schema_of l.schema) l.p) l.initial.rows);
+}
 
 abbrev pub decreases-loop-w : goal.decreases-loop-w
 decreases-loop-w l = most_policies - l.j

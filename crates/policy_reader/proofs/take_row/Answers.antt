@@ -1,7 +1,6 @@
 -- The PN read so far stand in a row.
 -- Rests on the laws of PN in a row.
 use Rattle.fields.proofs.Shorts.{element-wide}
-use Prim.Native.Nat.{◌-◌}
 use Rattle.policy_reader.proofs.Rules.{row-init, row_room, row-shape, row-at-fits, row-offset-fits, row-end-fits, row_step}
 use Rattle.policy_reader.proofs.take_row.Goals as goal
 

@@ -1,6 +1,5 @@
 -- The columns so far are told.
 -- Rests on the laws of a turn, in Banning.
-use Prim.Native.Nat.{◌-◌}
 use Rattle.ranks.proofs.Banning.{banning-init, column-room, banning-keep, banning-step, banning-exit}
 use Rattle.ranks.proofs.ban_each.Goals as goal
 

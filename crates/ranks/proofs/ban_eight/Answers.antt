@@ -1,6 +1,5 @@
 -- The offsets from here on are left for each of the eight columns; the greatest ranks are stored at the end.
 -- Rests on the laws of a turn, in Banning.
-use Prim.Native.Nat.{◌-◌}
 use Rattle.fields.proofs.Shorts.{element-wide}
 use Rattle.policies.proofs.Offsets.{stretch-inside}
 use Rattle.ranks.proofs.Banning.{greatest-init, greatest-step, greatest-exit, eight-no}

@@ -1,6 +1,5 @@
 -- The offsets from here on are left to compare.
 -- Rests on the laws of a turn, in Comparing.
-use Prim.Native.Nat.{◌-◌}
 use Rattle.fields.proofs.Shorts.{element-wide}
 use Rattle.policies.proofs.Offsets.{stretch-inside, stretch-room}
 use Rattle.ranks.proofs.Comparing.{comparing-init, comparing-before, comparing-after, comparing-step, comparing-exit}

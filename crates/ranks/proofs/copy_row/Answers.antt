@@ -1,6 +1,5 @@
 -- The bytes so far are in the row.
 -- Rests on the laws of one row, in Gathering.
-use Prim.Native.Nat.{◌-◌}
 use Rattle.ranks.proofs.Gathering.{row-init, row_step, row-exit}
 use borrow.Author.Rules.{rules}
 use Rattle.ranks.proofs.copy_row.Goals as goal

@@ -1,6 +1,5 @@
 -- The columns so far have their bytes; eight bytes have them all.
 -- Rests on the laws of one row, in Gathering.
-use Prim.Native.Nat.{◌-◌}
 use Rattle.ranks.proofs.Gathering.{row-init, row_step, row-exit}
 use Rattle.ranks.proofs.gather_row.Goals as goal
 

@@ -1,6 +1,5 @@
 -- The rows so far, then the PN left, make the order.
 -- Rests on the laws of all rows, in Gathering.
-use Prim.Native.Nat.{◌-◌}
 use Rattle.fields.proofs.Shorts.{element-wide}
 use Rattle.ranks.proofs.Gathering.{rows_inside, rows-init, row_inside, row-few, rows_step, rows-exit}
 use Rattle.ranks.proofs.gather_rows.Goals as goal

@@ -1,6 +1,5 @@
 -- The offsets from here on are left to ask.
 -- Rests on the laws of a turn, in Allowing.
-use Prim.Native.Nat.{◌-◌}
 use Rattle.fields.proofs.Shorts.{element-wide}
 use Rattle.ranks.proofs.Allowing.{asking-init, rank-inside, rank-fits, asking-no, asking-step, asking-exit}
 use borrow.Author.Rules.{rules}

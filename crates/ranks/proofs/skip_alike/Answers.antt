@@ -1,6 +1,5 @@
 -- The PN so far decide nothing.
 -- Rests on the laws of the rows that are skipped, in Gathering.
-use Prim.Native.Nat.{◌-◌}
 use Rattle.fields.proofs.Shorts.{element-wide}
 use Rattle.policies.proofs.Offsets.{stretch-inside}
 use Rattle.ranks.proofs.Gathering.{skip-init, skip_step}

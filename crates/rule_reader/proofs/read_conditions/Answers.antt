@@ -1,6 +1,5 @@
 -- What is left to read from here equals the whole.
 -- Rests on the laws of the loop over a node's variables.
-use Prim.Native.Nat.{◌-◌}
 use Rattle.rule_reader.proofs.Reader.{conditions-bad, conditions-more, conditions-done}
 use Rattle.rule_reader.proofs.read_conditions.Goals as goal
 

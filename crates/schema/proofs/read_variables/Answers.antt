@@ -1,6 +1,5 @@
 -- What is left to read and to fill from here equals the whole.
 -- Rests on the laws of the loop over a node's variables, in Fill.
-use Prim.Native.Nat.{◌-◌}
 use Rattle.schema.proofs.Fill.{variables-init, variables-room, variables-light, variables-refused, variables-step-number, variables-step-listed, variables-exit, variables-inside, variables-same}
 use Rattle.schema.proofs.read_variables.Goals as goal
 

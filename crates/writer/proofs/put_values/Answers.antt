@@ -1,6 +1,5 @@
 -- With the values from variable k on put from here, the buffer is what it shall be.
 -- Rests on what the schema's accessors answer.
-use Prim.Native.Nat.{◌-◌}
 use Rattle.writer.proofs.Writer.{values-init, values-room, values-step, values-exit}
 use Rattle.instances.proofs.Slots.{node-slots, slot-room, slot-fits, slot-bytes}
 use Rattle.writer.proofs.put_values.Goals as goal
