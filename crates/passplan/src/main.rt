@@ -1,8 +1,7 @@
 // Reads schema.bin, policies.bin and records PS of standard input, and prints a line for each.
 #![tactic(auto)]
 
-ghost use Rattle.std.specs.Prelude.{◌≡◌, ◌+◌, ◌*◌, ◌<◌, ◌≤◌, length};
-ghost use Rattle.io.specs.Counts.{IsPrefixLen};
+ghost use Rattle.std.specs.Prelude.{◌≡◌, ◌+◌, ◌*◌, ◌<◌, ◌≤◌, length, MatchResult};
 ghost use Rattle.lines.specs.Line.{Laid};
 ghost use Rattle.instances.specs.File.{most_bytes};
 ghost use Rattle.calls.specs.Calls.{reconciling};
@@ -10,8 +9,9 @@ ghost use Rattle.calls.specs.Program.{line_in};
 ghost use Rattle.passplan.specs.Program.{most_line, Answered, Printed};
 
 use instances::MOST_BYTES;
-use libc::{STDIN_FILENO, STDOUT_FILENO};
 use lines::PassRead;
+use std::fs;
+use std::io::{Read, Write};
 
 // Where the lines end, and whether the run ends there too.
 #[derive(Clone, Copy)]
@@ -115,65 +115,87 @@ fn put_lines(
     }
 }
 
-// The first bytes of an open file, as many as b has room for, and how many there are: 0 where a read fails.
-fn read_file(fd: i32, b: &mut [u8]) -> usize
-    ensures { IsPrefixLen result b.new }
+// The bytes of each of the files, and of the lines, that there is room for.
+const ROOM: usize = 65536;
+
+// Reads until b is full or the input ends, or a read fails: how many bytes there are.
+fn fill<R: Read>(input: &mut R, b: &mut [u8]) -> Result<usize, usize>
+    ensures { MatchResult result (λ n. n ≤ length b.new) (λ n. n ≤ length b.new) }
 {
     let mut n: usize = 0;
     while n < b.len() {
-        let got = libc::read(fd, &mut b[n..]);
-        if got < 0 {
-            return 0;
+        match input.read(&mut b[n..]) {
+            Err(_) => return Err(n),
+            Ok(more) => {
+                if more == 0 {
+                    return Ok(n);
+                }
+                n += more;
+            }
         }
-        let more = io::count(got, &b[n..]);
-        if more == 0 {
-            return n;
-        }
-        n += more;
     }
-    n
+    Ok(n)
 }
 
-// The same of a file by its name: 0 where it is missing.
-fn load(path: &[u8], b: &mut [u8]) -> usize
-    ensures { IsPrefixLen result b.new }
+// The first bytes of a file, as many as b has room for, and how many there are: 0 where it is missing or a read fails.
+fn load(rt: &HostRuntime, path: &str, b: &mut [u8]) -> usize
+    ensures { result ≤ length b.new }
 {
-    let fd = os::open_read(path);
-    if fd < 0 {
-        return 0;
+    match fs::open(rt, path) {
+        Err(_) => 0,
+        Ok(mut file) => match fill(&mut file, b) {
+            Err(_) => 0,
+            Ok(n) => n,
+        },
     }
-    let n = read_file(fd, b);
-    libc::close(fd);
-    n
+}
+
+// What is read until b is full, the input ends or a read fails.
+fn read_full<R: Read>(input: &mut R, b: &mut [u8]) -> usize
+    ensures { result ≤ length b.new }
+{
+    match fill(input, b) {
+        Err(n) => n,
+        Ok(n) => n,
+    }
+}
+
+// One read: 0 where it fails.
+fn read_some<R: Read>(input: &mut R, b: &mut [u8]) -> usize
+    ensures { result ≤ length b.new }
+{
+    match input.read(b) {
+        Err(_) => 0,
+        Ok(n) => n,
+    }
 }
 
 // What input is there, up to 24 records, the last one waited for; 0 at its end.
-fn read_records(b: &mut [u8]) -> usize
+fn read_records<R: Read>(input: &mut R, b: &mut [u8]) -> usize
     requires { length b.old ≡ 144 }
-    ensures { IsPrefixLen result b.new }
+    ensures { result ≤ length b.new }
 {
-    let got = libc::read(STDIN_FILENO, b);
-    let n = io::count(got, b);
+    let n = read_some(input, b);
     let over = n % 6;
     if over == 0 {
         return n;
     }
     let end = n + (6 - over);
-    let more = io::read_full(STDIN_FILENO, &mut b[n..end]);
+    let more = read_full(input, &mut b[n..end]);
     n + more
 }
 
 // Answers what input is there, and how many bytes it had: 0 where the run ends.
-fn turn(schema: &[u8], policies: &[u8], from: u64, out: &mut [u8]) -> usize
+fn turn(rt: &HostRuntime, schema: &[u8], policies: &[u8], from: u64, out: &mut [u8]) -> usize
     requires from_bound { from < 9223372036854775808 }
     requires out_len { length out.old ≡ 65536 }
     ensures { result ≤ 144 }
 {
     let mut input = [0u8; 144];
-    let n = read_records(&mut input);
+    let n = read_records(&mut rt.stdin(), &mut input);
     let said = put_lines(schema, policies, &input[..n], from, 24, out);
     let end = said.end;
-    let written = io::write_all(STDOUT_FILENO, &out[..end]);
+    let written = rt.stdout().write_all(&out[..end]).is_ok();
     if said.last {
         return 0;
     }
@@ -181,12 +203,12 @@ fn turn(schema: &[u8], policies: &[u8], from: u64, out: &mut [u8]) -> usize
 }
 
 // Offsets stay within 64 bits: no run gets as far as 2^63 bytes.
-fn run(schema: &[u8], policies: &[u8], out: &mut [u8])
+fn run(rt: &HostRuntime, schema: &[u8], policies: &[u8], out: &mut [u8])
     requires { length out.old ≡ 65536 }
 {
     let mut from: u64 = 0;
     while from < 9223372036854775808 {
-        let n = turn(schema, policies, from, out);
+        let n = turn(rt, schema, policies, from, out);
         if n == 0 {
             return;
         }
@@ -195,11 +217,11 @@ fn run(schema: &[u8], policies: &[u8], out: &mut [u8])
 }
 
 // The files are read once, before the first record: they do not change during a run.
-fn main() {
-    let mut s = io::large_buffer();
-    let n = load(b"schema.bin", &mut s);
-    let mut p = io::large_buffer();
-    let m = load(b"policies.bin", &mut p);
-    let mut out = io::large_buffer();
-    run(&s[..n], &p[..m], &mut out);
+fn main(rt: HostRuntime) {
+    let mut s = [0u8; ROOM];
+    let n = load(&rt, "schema.bin", &mut s);
+    let mut p = [0u8; ROOM];
+    let m = load(&rt, "policies.bin", &mut p);
+    let mut out = [0u8; ROOM];
+    run(&rt, &s[..n], &p[..m], &mut out);
 }

@@ -1,0 +1,9 @@
+-- What is read so far stands at the start of the buffer; what is left of it falls, since a read that gives nothing ends the loop.
+use Rattle.std.proofs.Common.{length, ◌-◌, ◌≤◌}
+use Rattle.passplan.proofs.fill.Given as goal
+
+abbrev pub invariant-loop-n : goal.invariant-loop-n
+invariant-loop-n g l = l.n ≤ length l.b
+
+abbrev pub decreases-loop-n : goal.decreases-loop-n
+decreases-loop-n g l = length l.initial.b - l.n
