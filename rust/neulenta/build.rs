@@ -1,4 +1,4 @@
-//! Links the archive that `rt staticlib exports` makes, or the one in the folder that NEULENTA_LIB
+//! Links the archive that `tools/build exports` makes, or the one in the folder that NEULENTA_LIB
 //! names: `libneulenta.a`, as it is installed, else `libexports.a`.
 
 use std::env;
@@ -26,7 +26,7 @@ fn main() {
             let archives: Vec<_> =
                 names.iter().map(|name| archive(name).display().to_string()).collect();
             println!(
-                "cargo::error=no static library at {}; run `rt staticlib exports` in the \
+                "cargo::error=no static library at {}; run `tools/build exports` in the \
                  repository or set {FOLDER} to the archive's folder, as an absolute path",
                 archives.join(" or "),
             );

@@ -61,7 +61,7 @@ fn seconds(mut program: Command, folder: &Path, printed: &str) -> f64 {
     let printed = File::create(folder.join(printed)).expect("a file for the lines");
     program.current_dir(folder).stdin(Stdio::from(input)).stdout(Stdio::from(printed));
     let start = Instant::now();
-    let status = program.status().expect("passplan is built: rt check passplan");
+    let status = program.status().expect("passplan is built: tools/build passplan");
     assert!(status.success());
     start.elapsed().as_secs_f64()
 }

@@ -11,7 +11,7 @@
 //! of stack left. A call that refuses says why, in which file and at which offset ([`Refused`]).
 //!
 //! The crate is used from within its repository, `neulenta = { path = "../rust/neulenta" }`, on x86-64
-//! Linux. It links `target/staticlib/libexports.a`, which `rt staticlib exports` makes there, or the
+//! Linux. It links `target/staticlib/libexports.a`, which `tools/build exports` makes there, or the
 //! archive in the folder that the environment variable `NEULENTA_LIB` names, by an absolute path:
 //! `PREFIX/lib` where the library is installed. Then [`compatible`] says whether that one will do.
 //!

@@ -1,4 +1,4 @@
-//! The program passplan against what the reference prints; it is built by `rt check passplan`.
+//! The program passplan against what the reference prints; it is built by `tools/build passplan`.
 
 mod faults;
 mod files;

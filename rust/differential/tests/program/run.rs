@@ -126,7 +126,7 @@ impl<'a> Run<'a> {
         folder.put("schema.bin", self.schema);
         folder.put("policies.bin", self.policies);
         let program = self.command(&folder).spawn();
-        let mut program = program.expect("passplan is built: rt check passplan");
+        let mut program = program.expect("passplan is built: tools/build passplan");
         let (id, input) = (program.id(), program.stdin.take());
         let (running, ended) = mpsc::channel::<()>();
         thread::scope(|scope| {
