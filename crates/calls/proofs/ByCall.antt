@@ -17,9 +17,8 @@ use Rattle.model.proofs.Relations.{ForbiddenField, First}
 use Rattle.calls.specs.Calls.{reconciling, checking, comparing, copying, sheeting}
 use Rattle.calls.proofs.Answers.{AcceptsWhen, Alone, Untouched}
 use Rattle.calls.proofs.Accepted.{InputsAccepted, Breach, NoInputRefused, acceptance}
-use Rattle.calls.proofs.Delivered.{Delivered}
 use Rattle.calls.proofs.Demand1.{demand-1}
-use Rattle.calls.proofs.Demand2.{EncodesMeeting, Compared, demand-2, round-trips}
+use Rattle.calls.proofs.Demand2.{EncodesMeeting, Compared, Copied, demand-2, round-trips}
 use Rattle.calls.proofs.Demand3.{Demand3, demand-3}
 use Rattle.calls.proofs.Sheet.{Sheeted, sheeted}
 
@@ -58,7 +57,7 @@ pub record Copies (f s out : List ℕ) (o : Outcome) : Type 0 where
   pub refuses-instance : {g : List Node} {q n at : ℕ} → schema f ≡ got g q → instance g s ≡ bad n at → o ≡ refused n 4 at out
   pub untouched : Untouched out o
   -- demand 2
-  pub copied : {g : List Node} {q : ℕ} → schema f ≡ got g q → Delivered g s (λ E. s) out o
+  pub copied : {g : List Node} {q : ℕ} → schema f ≡ got g q → Copied g s out o
 
 pub record Sheets (f s out : List ℕ) (o : Outcome) : Type 0 where
   -- demand 1

@@ -19,13 +19,7 @@ use Rattle.instances.proofs.Refusals.{refused, instance-numbered}
 use Rattle.calls.specs.Inputs.{with_schema}
 use Rattle.calls.specs.Calls.{delivering}
 use Rattle.calls.proofs.Answers.{RefusesWhen, Writes, placed-fits, placed-short, placed-0, placed-14}
-use Rattle.calls.proofs.Accepted.{sound-read}
-
--- 'it encodes an instance'
-pub record Encodes (g : List Node) (s : List ℕ) : Type 0 where
-  pub what : List Entry
-  pub is-instance : IsInstance g what
-  pub is-file : encode g what ≡ s
+use Rattle.calls.proofs.Demand2.{Encodes, read, encoded}
 
 -- made is what a call makes of the instance that the file s encodes
 module _ (g : List Node) (s : List ℕ) (made : Encodes g s → List ℕ) (out : List ℕ) where
@@ -49,12 +43,6 @@ module _ (g : List Node) (s : List ℕ) (made : Encodes g s → List ℕ) (out :
 -- ---- the proof, where the schema is accepted
 
 module _ (f : List ℕ) (h : Bytes f) {g : List Node} {q : ℕ} (e : schema f ≡ got g q) where
-  unfoldable pub read : (s : List ℕ) → Bytes s → {i : List Entry} {r : ℕ} → instance g s ≡ got i r → Encodes g s
-  read s c {i} k = record { what = i; is-instance = read_is g (sound-read f h e) s c k; is-file = read-encode g s c k }
-
-  pub encoded : (s : List ℕ) (E : Encodes g s) → instance g s ≡ got E.what (length s)
-  encoded s E = subst (λ (t : List ℕ). instance g t ≡ got E.what (length t)) E.is-file (encode-read g (sound-read f h e) E.what E.is-instance)
-
   delivering-is : (text : List Node → List Entry → List ℕ) (s out : List ℕ) → delivering text f s out ≡ judged (leaving out) 4 (instance g s) (λ i. placed (text g i) out)
   unfolding delivering with_schema judged
   delivering-is text s out = rw e
@@ -65,7 +53,7 @@ module _ (f : List ℕ) (h : Bytes f) {g : List Node} {q : ℕ} (e : schema f �
   delivered text s made is c out = subst (Delivered g s made out) (sym (delivering-is text s out)) (go (instance g s) refl)
     where
       same : (E : Encodes g s) {r : Got (List Entry)} → instance g s ≡ r → r ≡ got E.what (length s)
-      same E k = sym k ∙ encoded s E
+      same E k = sym k ∙ encoded f h e s E
 
       -- one file encodes one instance, of which one thing is made
       only : (E : Encodes g s) {i : List Entry} {x : ℕ} → instance g s ≡ got i x → text g i ≡ made E
@@ -75,10 +63,10 @@ module _ (f : List ℕ) (h : Bytes f) {g : List Node} {q : ℕ} (e : schema f �
       go (got i x) k =
           record {
             writes = λ F. subst (λ (t : List ℕ). Writes t out (placed (text g i) out)) (only F.encodes k) (placed-fits (text g i) out (subst (λ (t : List ℕ). length t ≤ length out) (sym (only F.encodes k)) F.enough));
-            answers-0 = λ n. record { encodes = read s c k; enough = subst (λ (t : List ℕ). length t ≤ length out) (only (read s c k) k) (placed-0 (text g i) out n) };
+            answers-0 = λ n. record { encodes = read f h e s c k; enough = subst (λ (t : List ℕ). length t ≤ length out) (only (read f h e s c k) k) (placed-0 (text g i) out n) };
             short = record {
               when = λ T. placed-short (text g i) out (subst (λ (t : List ℕ). length out < length t) (sym (only T.encodes k)) T.shorter);
-              only = λ n. record { encodes = read s c k; shorter = subst (λ (t : List ℕ). length out < length t) (only (read s c k) k) (placed-14 (text g i) out n) };
+              only = λ n. record { encodes = read f h e s c k; shorter = subst (λ (t : List ℕ). length out < length t) (only (read f h e s c k) k) (placed-14 (text g i) out n) };
             };
           }
       go (bad n o) k =

@@ -138,7 +138,7 @@ delivering-untouched text f s out =
     leaving-untouched n file o h = refused-untouched n file o out
 
 pub demand-1 : (f p : List ℕ) (a b : ℕ) (s t out : List ℕ) → Demand1 f p a b s t out
-unfolding reconciling checking checking_in_force comparing comparing_in_force copying sheeting
+unfolding reconciling checking checking_in_force comparing comparing_in_force copying sheeting delivering
 demand-1 f p a b s t out =
     record {
       inputs-refused = inputs-refused f p a b s t out;

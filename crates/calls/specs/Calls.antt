@@ -56,16 +56,19 @@ comparing f p a b s t =
     with_in_force refusal g p a b λ ps.
     comparing_in_force g ps s t
 
+-- 'a copying call takes schema and instance (file 4) and writes the instance it read, 14 last'
+unfoldable pub copying : List ℕ → List ℕ → List ℕ → Outcome
+copying f s out =
+    with_schema (leaving out) f λ g.
+    judged (leaving out) 4 (instance g s) λ i.
+    placed (encode g i) out
+
 -- an instance's text (file 4), placed in the buffer, '14 last'
 unfoldable pub delivering : (List Node → List Entry → List ℕ) → List ℕ → List ℕ → List ℕ → Outcome
 delivering text f s out =
     with_schema (leaving out) f λ g.
     judged (leaving out) 4 (instance g s) λ i.
     placed (text g i) out
-
--- 'a copying call takes schema and instance (file 4) and writes the instance it read, 14 last'
-unfoldable pub copying : List ℕ → List ℕ → List ℕ → Outcome
-copying f s out = delivering encode f s out
 
 -- whatever the schema
 abbrev pub sheet_of : List Node → List Entry → List ℕ

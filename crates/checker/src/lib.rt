@@ -7,7 +7,7 @@ ghost use Rattle.schema.specs.Schema.{schema_of, node_at};
 ghost use Rattle.schema.specs.Table.{Accepted, Tabled, Room, NodeIn};
 ghost use Rattle.policies.specs.Rows.{RowsRoom, noted, Noted};
 ghost use Rattle.instances.specs.File.{values_width, most_bytes};
-ghost use Rattle.instances.specs.Plan.{nodes_of, values_from, values_slot, plan_of, held, BitsRoom};
+ghost use Rattle.instances.specs.Plan.{planned, nodes_of, values_from, values_slot, plan_of, BitsRoom};
 ghost use Rattle.model.specs.Satisfaction.{choice_meets};
 ghost use Rattle.model.specs.Comparing.{forbidden_value, forbidden_entry, forbidden};
 ghost use Rattle.calls.specs.Inputs.{with_in_force};
@@ -123,8 +123,8 @@ fn first_forbidden(
     requires tabled { Tabled schema.now table.now }
     requires noted { Noted schema.now p.now rows.now }
     requires bits_room { BitsRoom schema.now bits.now }
-    requires nodes_value { nodes ≡ nodes_of (held schema.now choices.now bits.now) }
-    ensures { result ≡ forbidden_in (forbidden (schema_of schema.now) (noted (schema_of schema.now) p.now rows.now) (held schema.now choices.now bits.now)) }
+    requires nodes_value { nodes ≡ nodes_of (planned (schema_of schema.now) (plan_of (schema_of schema.now) choices.now bits.now)) }
+    ensures { result ≡ forbidden_in (forbidden (schema_of schema.now) (noted (schema_of schema.now) p.now rows.now) (planned (schema_of schema.now) (plan_of (schema_of schema.now) choices.now bits.now))) }
 {
     let mut left = nodes;
     let mut at = HEAD_WIDTH;

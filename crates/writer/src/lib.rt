@@ -6,7 +6,7 @@ ghost use Rattle.fields.specs.Writing.{Wrote};
 ghost use Rattle.schema.specs.Schema.{schema_of, node_at};
 ghost use Rattle.schema.specs.Table.{Tabled, Accepted, NodeIn};
 ghost use Rattle.instances.specs.File.{value_width, values_width, value_of, encode_value, encode_values, encode_entry, encode};
-ghost use Rattle.instances.specs.Plan.{nodes_of, values_from, plan_of, held, BitsRoom};
+ghost use Rattle.instances.specs.Plan.{planned, nodes_of, values_from, plan_of, BitsRoom};
 
 use instances::{ENTRY_WIDTH, HEAD_WIDTH, LISTED_WIDTH, NUMBER_WIDTH};
 use schema::{MOST_NODES, MOST_VARIABLES, Variable};
@@ -86,9 +86,9 @@ pub fn write_planned(
     requires accepted { Accepted schema.now }
     requires tabled { Tabled schema.now table.now }
     requires bits_room { BitsRoom schema.now bits.now }
-    requires nodes_value { nodes ≡ nodes_of (held schema.now choices.now bits.now) }
-    requires bits_in_bounds { length (encode (schema_of schema.now) (held schema.now choices.now bits.now)) ≤ length out.old }
-    ensures { Wrote out.old 0 (encode (schema_of schema.now) (held schema.now choices.now bits.now)) out.new result }
+    requires nodes_value { nodes ≡ nodes_of (planned (schema_of schema.now) (plan_of (schema_of schema.now) choices.now bits.now)) }
+    requires bits_in_bounds { length (encode (schema_of schema.now) (planned (schema_of schema.now) (plan_of (schema_of schema.now) choices.now bits.now))) ≤ length out.old }
+    ensures { Wrote out.old 0 (encode (schema_of schema.now) (planned (schema_of schema.now) (plan_of (schema_of schema.now) choices.now bits.now))) out.new result }
 {
     let mut left = nodes;
     let mut at = HEAD_WIDTH;
