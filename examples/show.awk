@@ -1,8 +1,7 @@
 # What examples/show says of a folder. It reads, one after the other, as the variable part says: the
 # bytes of the schema and of the passes as numbers, the legend (has_legend is 1 if there is one) and
-# what passplan printed, of which so many lines are whole (whole); sheet.N is the sheet of the instance
-# in line N. The schema is one that passplan accepts; if it is not, refused says why, and it is not
-# read. FOLDER is the folder's name.
+# what passplan printed, of which so many lines are whole (whole). The schema is one that passplan
+# accepts; if it is not, refused says why, and it is not read. FOLDER is the folder's name.
 
 BEGIN {
     errors = "cat >&2"
@@ -206,30 +205,13 @@ function digits(n,    value) {
     return value
 }
 
-function tell_instance(i, hex,    entries, left) {
+function tell_instance(i, hex,    left) {
     instance = hex
     digits_read = settings = 0
     digits(4) # IH
-    entries = digits(2)
-    for (left = entries; left > 0; left--) tell_entry()
+    for (left = digits(2); left > 0; left--) tell_entry()
     if (digits_read != length(hex)) fault("line " i " of passplan: the instance does not fit the schema")
-    else {
-        if (!settings) print "  nothing to choose"
-        tell_sheet(i, entries)
-    }
-}
-
-# The lines of a sheet as they are.
-function tell_sheet(i, entries,    file, text, lines, wrong_lines) {
-    file = "sheet." i
-    while ((getline text < file) > 0) {
-        print text
-        lines++
-        if (length(text) != 54) wrong_lines++
-    }
-    close(file)
-    if (lines != entries || wrong_lines)
-        fault("the sheet for line " i " of passplan is not a line of 54 bytes for each of " entries " entries")
+    else if (!settings) print "  nothing to choose"
 }
 
 function tell_entry(    node, choice, v) {

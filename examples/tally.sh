@@ -1,27 +1,21 @@
-# What examples/run and examples/test have in common: they take PASSPLAN and SHEET and count what
-# passes. Once this is read, the current folder is examples; passplan and sheet are the paths of the
-# two, and work is a folder that goes when the script ends.
+# What examples/run and examples/test have in common: they take PASSPLAN and count what passes. Once
+# this is read, the current folder is examples; program is PASSPLAN's path, and work is a folder that
+# goes when the script ends.
 set -u
 unset CDPATH
 
 case $#,${1-} in
-    2,-* | 2,) set -- ;;
+    1,-* | 1,) set -- ;;
 esac
-if [ $# -ne 2 ]; then
-    echo "usage: examples/$(basename "$0") PASSPLAN SHEET" >&2
+if [ $# -ne 1 ]; then
+    echo "usage: examples/$(basename "$0") PASSPLAN" >&2
     exit 2
 fi
-
-# path PROGRAM: of a program that is there
-path() {
-    if [ ! -f "$1" ] || [ ! -x "$1" ]; then
-        echo "examples/$(basename "$0"): no program at $1" >&2
-        return 2
-    fi
-    echo "$(cd "$(dirname "$1")" && pwd)/$(basename "$1")"
-}
-
-passplan=$(path "$1") && sheet=$(path "$2") || exit 2
+if [ ! -f "$1" ] || [ ! -x "$1" ]; then
+    echo "examples/$(basename "$0"): no program at $1" >&2
+    exit 2
+fi
+program=$(cd "$(dirname "$1")" && pwd)/$(basename "$1")
 cd "$(dirname "$0")" || exit 2
 
 work=$(mktemp -d) || exit 2

@@ -46,7 +46,7 @@ extern "C" {
  * an answer of a call changes its meaning, a new number, file or verdict of a call included; the
  * minor one when a call is added, or files may say more; the last one otherwise. */
 #define NEULENTA_VERSION_MAJOR 1
-#define NEULENTA_VERSION_MINOR 1
+#define NEULENTA_VERSION_MINOR 0
 #define NEULENTA_VERSION_PATCH 0
 #define NEULENTA_VERSION \
     (NEULENTA_VERSION_MAJOR * 65536 + NEULENTA_VERSION_MINOR * 256 + NEULENTA_VERSION_PATCH)
@@ -150,7 +150,7 @@ static inline const char *neulenta_text(uint32_t number) {
     case NEULENTA_WRONG_PASS:
         return "last day of the pass below its first day, or above the day after it";
     case NEULENTA_NO_INSTANCE: return "no instance meets the policies in force";
-    case NEULENTA_SHORT_BUFFER: return "the buffer is shorter than the instance, or than the sheet";
+    case NEULENTA_SHORT_BUFFER: return "the buffer is shorter than the instance";
     case NEULENTA_WRONG_ENTRY:
         return "entry not for the lowest reached node without one, or a reached node "
                "without an entry";

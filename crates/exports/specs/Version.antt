@@ -5,7 +5,7 @@ abbrev pub major : ℕ
 major = 1
 
 abbrev pub minor : ℕ
-minor = 1
+minor = 0
 
 abbrev pub patch : ℕ
 patch = 0

@@ -14,7 +14,7 @@ use fields::Answer;
 // NEULENTA_VERSION_MAJOR, _MINOR and _PATCH of include/neulenta.h.
 const MAJOR: u32 = 1;
 
-const MINOR: u32 = 1;
+const MINOR: u32 = 0;
 
 const PATCH: u32 = 0;
 

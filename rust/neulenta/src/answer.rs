@@ -68,7 +68,7 @@ numbered! {
     WrongMask = 11 "mask has a bit at or above the variable's size"
     WrongPass = 12 "last day of the pass below its first day, or above the day after it"
     NoInstance = 13 "no instance meets the policies in force"
-    ShortBuffer = 14 "the buffer is shorter than the instance, or than the sheet"
+    ShortBuffer = 14 "the buffer is shorter than the instance"
     WrongEntry = 15
         "entry not for the lowest reached node without one, or a reached node without an entry"
     WrongChoice = 16

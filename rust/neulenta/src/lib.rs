@@ -77,7 +77,7 @@ pub const STACK: usize = 20_480;
 
 /// The version of the calls for which this wrapper is written: major, minor and patch in a byte
 /// each.
-pub const VERSION: u32 = 0x01_01_00;
+pub const VERSION: u32 = 0x01_00_00;
 
 /// The version of the library that is linked, as [`VERSION`] has it.
 #[must_use]
