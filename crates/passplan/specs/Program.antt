@@ -1,5 +1,5 @@
 -- What passplan's code puts into its buffer: the lines of 01's program (calls/specs/Program), and whether the run ends.
-use Rattle.std.specs.Prelude.{ℕ, ◌*◌, ◌≡◌, List}
+use Rattle.std.specs.Prelude.{ℕ, ◌*◌, ◌≡◌, ◌≤◌, List, length, take}
 use Rattle.lines.specs.Record.{pass_at}
 use Rattle.lines.specs.Line.{Laid}
 use Rattle.calls.specs.Program.{line_for, ends, lines_at, last_at}
@@ -18,3 +18,7 @@ pub record Answered (f p : List ℕ) (from : ℕ) (s : List ℕ) (at : ℕ) (b :
 pub record Printed (f p : List ℕ) (from : ℕ) (s : List ℕ) (most : ℕ) (b after : List ℕ) (r : Place) : Type 0 where
   pub laid : Laid (most_line * most) b 0 (lines_at f p from s most 0) after r.end
   pub last : r.last ≡ last_at s most 0
+
+-- so many bytes at the start of a buffer
+abbrev pub IsPrefixLen : ℕ → List ℕ → Type 0
+IsPrefixLen n b = (n ≤ length b) × (n ≡ length (take n b))

@@ -6,7 +6,7 @@ ghost use Rattle.lines.specs.Line.{Laid};
 ghost use Rattle.instances.specs.File.{most_bytes};
 ghost use Rattle.calls.specs.Calls.{reconciling};
 ghost use Rattle.calls.specs.Program.{line_in};
-ghost use Rattle.passplan.specs.Program.{most_line, Answered, Printed};
+ghost use Rattle.passplan.specs.Program.{most_line, Answered, Printed, IsPrefixLen};
 
 use instances::MOST_BYTES;
 use lines::PassRead;
@@ -120,7 +120,7 @@ const ROOM: usize = 65536;
 
 // Reads until b is full or the input ends, or a read fails: how many bytes there are.
 fn fill<R: Read>(input: &mut R, b: &mut [u8]) -> Result<usize, usize>
-    ensures { MatchResult result (λ n. n ≤ length b.new) (λ n. n ≤ length b.new) }
+    ensures { MatchResult result (λ n. IsPrefixLen n b.new) (λ n. IsPrefixLen n b.new) }
 {
     let mut n: usize = 0;
     while n < b.len() {
@@ -137,22 +137,29 @@ fn fill<R: Read>(input: &mut R, b: &mut [u8]) -> Result<usize, usize>
     Ok(n)
 }
 
-// The first bytes of a file, as many as b has room for, and how many there are: 0 where it is missing or a read fails.
+// The first bytes of an open file, as many as b has room for, and how many there are: 0 where a read fails.
+fn read_file<R: Read>(file: &mut R, b: &mut [u8]) -> usize
+    ensures { IsPrefixLen result b.new }
+{
+    match fill(file, b) {
+        Err(_) => 0,
+        Ok(n) => n,
+    }
+}
+
+// The same of a file by its name: 0 where it is missing.
 fn load(rt: &HostRuntime, path: &str, b: &mut [u8]) -> usize
-    ensures { result ≤ length b.new }
+    ensures { IsPrefixLen result b.new }
 {
     match fs::open(rt, path) {
         Err(_) => 0,
-        Ok(mut file) => match fill(&mut file, b) {
-            Err(_) => 0,
-            Ok(n) => n,
-        },
+        Ok(mut file) => read_file(&mut file, b),
     }
 }
 
 // What is read until b is full, the input ends or a read fails.
 fn read_full<R: Read>(input: &mut R, b: &mut [u8]) -> usize
-    ensures { result ≤ length b.new }
+    ensures { IsPrefixLen result b.new }
 {
     match fill(input, b) {
         Err(n) => n,
@@ -162,7 +169,7 @@ fn read_full<R: Read>(input: &mut R, b: &mut [u8]) -> usize
 
 // One read: 0 where it fails.
 fn read_some<R: Read>(input: &mut R, b: &mut [u8]) -> usize
-    ensures { result ≤ length b.new }
+    ensures { IsPrefixLen result b.new }
 {
     match input.read(b) {
         Err(_) => 0,
@@ -173,7 +180,7 @@ fn read_some<R: Read>(input: &mut R, b: &mut [u8]) -> usize
 // What input is there, up to 24 records, the last one waited for; 0 at its end.
 fn read_records<R: Read>(input: &mut R, b: &mut [u8]) -> usize
     requires { length b.old ≡ 144 }
-    ensures { result ≤ length b.new }
+    ensures { IsPrefixLen result b.new }
 {
     let n = read_some(input, b);
     let over = n % 6;
