@@ -462,7 +462,7 @@ struct Walker<'a> {
 }
 
 // The whole file, in turn with the pass from a to b: checked, and where it is accepted the rows note the policies in force.
-// A walker goes from head to head; that is proved by hand, so what a turn does stands in a function of a slice and numbers.
+// A walker goes from head to head; what a turn does stands in a function of a slice and numbers.
 pub fn read_policies(
     schema: &[u8],
     table: &[u16],
