@@ -18,7 +18,8 @@ use Rattle.calls.specs.Calls.{reconciling, checking, comparing, copying, sheetin
 use Rattle.calls.proofs.Answers.{AcceptsWhen, Alone, Untouched}
 use Rattle.calls.proofs.Accepted.{InputsAccepted, Breach, NoInputRefused, acceptance}
 use Rattle.calls.proofs.Demand1.{demand-1}
-use Rattle.calls.proofs.Demand2.{EncodesMeeting, Compared, Copied, demand-2, round-trips}
+use Rattle.calls.proofs.Demand2.{EncodesMeeting, Compared, demand-2, round-trips}
+use Rattle.calls.proofs.Copied.{Copied}
 use Rattle.calls.proofs.Demand3.{Demand3, demand-3}
 use Rattle.calls.proofs.Sheet.{Sheeted, sheeted}
 

@@ -12,14 +12,12 @@ use Rattle.fields.proofs.Bytes.{Bytes}
 use Rattle.fields.proofs.Refusals.{Numbered, unlike}
 use Rattle.schema.specs.Schema.{Node, schema}
 use Rattle.instances.specs.Instance.{Entry}
-use Rattle.instances.specs.File.{instance, encode}
-use Rattle.instances.proofs.IsInstance.{IsInstance}
-use Rattle.instances.proofs.RoundTrip.{read_is, read-encode, encode-read}
+use Rattle.instances.specs.File.{instance}
 use Rattle.instances.proofs.Refusals.{refused, instance-numbered}
 use Rattle.calls.specs.Inputs.{with_schema}
 use Rattle.calls.specs.Calls.{delivering}
 use Rattle.calls.proofs.Answers.{RefusesWhen, Writes, placed-fits, placed-short, placed-0, placed-14}
-use Rattle.calls.proofs.Demand2.{Encodes, read, encoded}
+use Rattle.calls.proofs.Copied.{Encodes, read, encoded}
 
 -- made is what a call makes of the instance that the file s encodes
 module _ (g : List Node) (s : List ℕ) (made : Encodes g s → List ℕ) (out : List ℕ) where

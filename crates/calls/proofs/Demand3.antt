@@ -85,23 +85,20 @@ module _ (f p : List ℕ) (a b : ℕ) (h : Bytes f) (A : InputsAccepted f p a b)
     unique j w =
         best-unique A.g (sound-schema A h) (MeetsInForce a b A.g A.ps) (better A.g (forced a b A.ps)) (better-strict A.g (forced a b A.ps)) j i w ours
 
-    some-given : Demand3 f p a b A out (given A.g out (some i))
-    unfolding given
-    some-given =
-        record {
-          refuses = record { when = λ n. absurd (n i ours.is-instance ours.meets); only = λ n. absurd (placed-not-13 (encode A.g i) out n) };
-          otherwise = λ n. record { ours = i; best = ours; unique = unique; writes = placed-fits (encode A.g i) out };
-          answers-0 = λ n. record { ours = i; best = ours; enough = placed-0 (encode A.g i) out n };
-          short =
-              record {
-                when = λ S. placed-short (encode A.g i) out (subst (λ (j : List Entry). length out < length (encode A.g j)) (unique S.ours S.best) S.shorter);
-                only = λ n. record { ours = i; best = ours; shorter = placed-14 (encode A.g i) out n };
-              };
-        }
-
   pub demand-3 : Demand3 f p a b A out (reconciling f p a b out)
+  unfolding given
   demand-3 = subst (Demand3 f p a b A out) (sym (reconciling-is A out)) (go (reconciled A.g (forced a b A.ps)) refl)
     where
       go : (o : Option (List Entry)) → reconciled A.g (forced a b A.ps) ≡ o → Demand3 f p a b A out (given A.g out o)
       go none e = none-given e
-      go (some i) e = some-given i e
+      go (some i) e =
+          record {
+            refuses = record { when = λ n. absurd (n i (ours i e).is-instance (ours i e).meets); only = λ n. absurd (placed-not-13 (encode A.g i) out n) };
+            otherwise = λ n. record { ours = i; best = ours i e; unique = unique i e; writes = placed-fits (encode A.g i) out };
+            answers-0 = λ n. record { ours = i; best = ours i e; enough = placed-0 (encode A.g i) out n };
+            short =
+                record {
+                  when = λ S. placed-short (encode A.g i) out (subst (λ (j : List Entry). length out < length (encode A.g j)) (unique i e S.ours S.best) S.shorter);
+                  only = λ n. record { ours = i; best = ours i e; shorter = placed-14 (encode A.g i) out n };
+                };
+          }

@@ -3,6 +3,7 @@ pub mod Answers
 pub mod Accepted
 pub mod Demand1
 pub mod Demand3
+pub mod Copied
 pub mod Delivered
 pub mod Demand2
 pub mod Sheet

@@ -18,7 +18,7 @@ use Rattle.columns.proofs.RoundTrip.{SheetReadsBack, reads-back, same-sheet}
 use Rattle.columns.proofs.Exact.{sheet-exact}
 use Rattle.calls.specs.Calls.{sheet_of, sheeting}
 use Rattle.calls.proofs.Accepted.{sound-read}
-use Rattle.calls.proofs.Demand2.{Encodes}
+use Rattle.calls.proofs.Copied.{Encodes}
 use Rattle.calls.proofs.Delivered.{Fitting, Delivered, delivered}
 
 -- of the outcome of the call on instance file s with this buffer, under an accepted schema

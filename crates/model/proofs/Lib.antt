@@ -11,5 +11,8 @@ pub mod Reconciler
 pub mod Satisfaction
 pub mod Right
 pub mod Comparing
+mod Search
+mod Splits
+mod Found
 pub mod Forbidden
 pub mod Same
