@@ -11,7 +11,8 @@ ghost use Rattle.passplan.specs.Program.{most_line, Answered, Printed, IsPrefixL
 use instances::MOST_BYTES;
 use lines::PassRead;
 use std::fs;
-use std::io::{Read, Write};
+use std::io::{ErrorKind, Read, Write};
+use std::process::ExitCode;
 
 // Where the lines end, and whether the run ends there too.
 #[derive(Clone, Copy)]
@@ -192,8 +193,48 @@ fn read_records<R: Read>(input: &mut R, b: &mut [u8]) -> usize
     n + more
 }
 
-// Answers what input is there, and how many bytes it had: 0 where the run ends.
-fn turn(rt: &HostRuntime, schema: &[u8], policies: &[u8], from: u64, out: &mut [u8]) -> usize
+// What came of writing: all is written, a write failed, or nobody reads the output any more.
+#[derive(Clone, Copy)]
+enum Written {
+    All,
+    Failed,
+    Unread,
+}
+
+// A write that failed.
+fn failed(kind: ErrorKind) -> Written {
+    match kind {
+        ErrorKind::BrokenPipe => Written::Unread,
+        _ => Written::Failed,
+    }
+}
+
+// Writes all of b, or up to the first write that fails or takes nothing.
+fn write_out<W: Write>(output: &mut W, b: &[u8]) -> Written {
+    let mut n: usize = 0;
+    while n < b.len() {
+        match output.write(&b[n..]) {
+            Err(e) => return failed(e.kind()),
+            Ok(more) => {
+                if more == 0 {
+                    return Written::Failed;
+                }
+                n += more;
+            }
+        }
+    }
+    Written::All
+}
+
+// Answers what input is there, and how many bytes it had: 0 where the run ends; and whether nobody reads the lines any more.
+fn turn(
+    rt: &HostRuntime,
+    schema: &[u8],
+    policies: &[u8],
+    from: u64,
+    out: &mut [u8],
+    unread: &mut bool,
+) -> usize
     requires from_bound { from < 9223372036854775808 }
     requires out_len { length out.old ≡ 65536 }
     ensures { result ≤ 144 }
@@ -202,33 +243,49 @@ fn turn(rt: &HostRuntime, schema: &[u8], policies: &[u8], from: u64, out: &mut [
     let n = read_records(&mut rt.stdin(), &mut input);
     let said = put_lines(schema, policies, &input[..n], from, 24, out);
     let end = said.end;
-    let written = rt.stdout().write_all(&out[..end]).is_ok();
-    if said.last {
-        return 0;
+    match write_out(&mut rt.stdout(), &out[..end]) {
+        Written::All => {
+            if said.last {
+                return 0;
+            }
+            n
+        }
+        Written::Failed => 0,
+        Written::Unread => {
+            *unread = true;
+            0
+        }
     }
-    if written { n } else { 0 }
 }
 
-// Offsets stay within 64 bits: no run gets as far as 2^63 bytes.
-fn run(rt: &HostRuntime, schema: &[u8], policies: &[u8], out: &mut [u8])
+// Offsets stay within 64 bits: no run gets as far as 2^63 bytes. Whether nobody reads the lines any more.
+fn run(rt: &HostRuntime, schema: &[u8], policies: &[u8], out: &mut [u8]) -> bool
     requires { length out.old ≡ 65536 }
 {
+    let mut unread = false;
     let mut from: u64 = 0;
     while from < 9223372036854775808 {
-        let n = turn(rt, schema, policies, from, out);
+        let n = turn(rt, schema, policies, from, out, &mut unread);
         if n == 0 {
-            return;
+            return unread;
         }
         from += n as u64;
     }
+    unread
 }
 
+// The status of a run that ends since nobody reads the lines any more: what a shell tells of the signal for that.
+const UNREAD: u8 = 128 + 13;
+
 // The files are read once, before the first record: they do not change during a run.
-fn main(rt: HostRuntime) {
+fn main(rt: HostRuntime) -> ExitCode {
     let mut s = [0u8; ROOM];
     let n = load(&rt, "schema.bin", &mut s);
     let mut p = [0u8; ROOM];
     let m = load(&rt, "policies.bin", &mut p);
     let mut out = [0u8; ROOM];
-    run(&rt, &s[..n], &p[..m], &mut out);
+    if run(&rt, &s[..n], &p[..m], &mut out) {
+        return ExitCode::from(UNREAD);
+    }
+    ExitCode::SUCCESS
 }

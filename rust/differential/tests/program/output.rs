@@ -1,10 +1,14 @@
 //! What is printed, and to whom.
 
+use std::env;
+use std::io::Write;
+use std::process::{Command, Stdio};
+
 use differential::generate::DAY;
 use reference::passplan;
 
 use crate::made::{Files, days, longest};
-use crate::run::Run;
+use crate::run::{PROGRAM, Run};
 
 #[test]
 fn longest_lines() {
@@ -35,4 +39,21 @@ fn taken_slowly_while_the_program_is_stopped_and_continued() {
         let taken = Some(step);
         Run { taken, stops: true, ..Run::on(&schema, &policies, &input) }.same();
     }
+}
+
+/// Where nobody reads the lines, the run ends with the status that a shell tells of SIGPIPE.
+#[test]
+fn nobody_reads() {
+    let mut program = Command::new(PROGRAM)
+        .current_dir(env::temp_dir())
+        .stdin(Stdio::piped())
+        .stdout(Stdio::piped())
+        .spawn()
+        .expect("passplan is built: tools/build passplan");
+    drop(program.stdout.take());
+    let mut input = program.stdin.take().expect("a pipe");
+    // what is not taken any more fails here
+    let _ = input.write_all(&days(DAY, 49));
+    drop(input);
+    assert_eq!(program.wait().expect("the program ends").code(), Some(128 + 13));
 }

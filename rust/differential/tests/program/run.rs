@@ -15,7 +15,7 @@ use std::{env, thread};
 
 use reference::passplan;
 
-const PROGRAM: &str = concat!(env!("CARGO_MANIFEST_DIR"), "/../../target/bin/passplan");
+pub const PROGRAM: &str = concat!(env!("CARGO_MANIFEST_DIR"), "/../../target/bin/passplan");
 const FAULTS: &str = concat!(env!("CARGO_MANIFEST_DIR"), "/tests/program/faults.c");
 /// How long a run may take: many times what the longest does.
 const LONGEST: Duration = Duration::from_secs(60);
