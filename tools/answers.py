@@ -145,9 +145,7 @@ class Function:
         m = re.match(r"(\S+) c(?: κs)? =\s*(.*)$", clause, re.S)
         new = self.goal(need)
         if not m:
-            if not re.match(r"\S+ c", clause):
-                self.say(f"{need}: {clause[:80]!r}")
-                return ["-- LEFT " + x for x in lines]
+            self.say(f"{need}: {clause[:80]!r}")
             return ["-- LEFT " + x for x in lines]
         term = m.group(2)
         if term.strip() == "search rules" and not opened:
@@ -246,13 +244,11 @@ def turn(crate, name, names, clauses):
         open(f"{folder}/Invariants.antt", "w", encoding="utf-8").write(
             "\n".join(([head[0]] if head else []) + kept + [f"use Rattle.{crate}.proofs.{name}.Given as goal", "", body, ""])
         )
-    used_helpers = list(helpers)
     if answers:
         body = "\n".join(answers).rstrip("\n")
-        middle = ("\n\n".join(used_helpers) + "\n\n") if used_helpers else ""
+        middle = "".join(it + "\n\n" for it in helpers)
         kept = imports(uses, middle + body)
-        top = head if not invariants else head
-        open(f"{folder}/Answers.antt", "w", encoding="utf-8").write("\n".join(top + kept + [f"use Rattle.{crate}.proofs.{name}.Goals as goal", ""]) + "\n" + middle + body + "\n")
+        open(f"{folder}/Answers.antt", "w", encoding="utf-8").write("\n".join(head + kept + [f"use Rattle.{crate}.proofs.{name}.Goals as goal", ""]) + "\n" + middle + body + "\n")
     elif helpers:
         f.say(f"helpers that no answer is left to cite: {[h.split(' :')[0] for h in helpers]}")
     if not os.listdir(folder):
