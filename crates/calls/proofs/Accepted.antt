@@ -8,8 +8,7 @@ use Prim.Native.Nat.{ℕ, ◌≤◌}
 use native.Mathlib.Omega.{arith}
 use lib.ListN.{length}
 use Rattle.fields.specs.Reading.{Got, got, bad}
-use Rattle.fields.specs.declared.Answer.{Answer}
-use Rattle.fields.specs.Answers.{judged, refusal}
+use Rattle.fields.specs.Answers.{Answer, judged, refusal}
 use Rattle.fields.specs.Outcomes.{Outcome, leaving, placed}
 use Rattle.fields.proofs.Bytes.{Bytes}
 use Rattle.fields.proofs.Refusals.{numbered}

@@ -8,8 +8,7 @@ use native.Mathlib.Omega.{arith}
 use borrow.Author.Tests.{le-leb, lt-leb, leb-true, leb-false}
 use lib.Dec.{leb}
 use lib.ListN.{length, drop}
-use Rattle.fields.specs.declared.Answer.{Answer}
-use Rattle.fields.specs.Answers.{success, refusal}
+use Rattle.fields.specs.Answers.{Answer, success, refusal}
 use Rattle.fields.specs.Outcomes.{Outcome, refused, placed}
 
 -- the answer is 0 throughout exactly when P

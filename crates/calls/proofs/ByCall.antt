@@ -5,8 +5,7 @@ use mathlib.Core.Logic.{◌↔◌}
 use mathlib.Core.List.{List}
 use Prim.Native.Nat.{ℕ}
 use Rattle.fields.specs.Reading.{got, bad}
-use Rattle.fields.specs.declared.Answer.{Answer}
-use Rattle.fields.specs.Answers.{refusal}
+use Rattle.fields.specs.Answers.{Answer, refusal}
 use Rattle.fields.specs.Outcomes.{Outcome, refused}
 use Rattle.fields.proofs.Bytes.{Bytes}
 use Rattle.schema.specs.Schema.{Node, schema}

@@ -10,8 +10,7 @@ use Prim.Native.Nat.{ℕ, ◌<◌}
 use native.Mathlib.Omega.{arith}
 use lib.ListN.{length, take}
 use Rattle.fields.specs.Reading.{got, bad}
-use Rattle.fields.specs.declared.Answer.{Answer}
-use Rattle.fields.specs.Answers.{judged, refusal}
+use Rattle.fields.specs.Answers.{Answer, judged, refusal}
 use Rattle.fields.specs.Outcomes.{refused, leaving}
 use Rattle.fields.proofs.Refusals.{of_file}
 use Rattle.fields.proofs.Judged.{judged-all}

@@ -8,8 +8,7 @@ use native.Mathlib.Omega.{arith}
 use lib.ListN.{length, take, drop}
 use lib.Seq.{take_at}
 use Rattle.fields.specs.Reading.{Got, got, bad}
-use Rattle.fields.specs.declared.Answer.{Answer}
-use Rattle.fields.specs.Answers.{judged, success, refusal}
+use Rattle.fields.specs.Answers.{Answer, judged, success, refusal}
 use Rattle.fields.specs.Outcomes.{Outcome}
 use Rattle.fields.proofs.Bytes.{Bytes}
 use Rattle.schema.specs.Schema.{Node, schema}

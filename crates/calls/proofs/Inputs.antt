@@ -1,21 +1,20 @@
 -- What holds of a call's refusals of its files and pass, and of what it does with them, holds of the call; what a call comes to
 -- from the answer of the schema's reader. Rests on the laws of one reading, and on the numbers that the readers refuse with.
-use mathlib.Core.Path.{◌≡◌, sym, ◌∙◌}
+use mathlib.Core.Path.{◌≡◌, refl, ap, sym, ◌∙◌}
 use mathlib.Core.Bool.{true}
 use mathlib.Core.List.{List}
 use Prim.Native.Nat.{ℕ}
 use Rattle.fields.specs.Reading.{got}
-use Rattle.fields.specs.Answers.{refusal, judged}
+use Rattle.std.specs.Prelude.{Result, Ok, Err}
+use Rattle.fields.specs.Answers.{Answer, number, as_end, end_of, refusal, judged}
 use Rattle.fields.specs.Outcomes.{Outcome, Did, leaving}
-use Rattle.fields.specs.declared.Answer.{Answer}
-use Rattle.fields.specs.declared.Step.{Step}
-use Rattle.fields.specs.declared.Step.TheVariants.{Next, Bad}
+use Rattle.fields.specs.declared.Breach.{Breach}
 use Rattle.fields.proofs.Refusals.{of_file}
-use Rattle.fields.proofs.Judged.{judged-all, judged-bad, judged-bad-did, did-same}
+use Rattle.fields.proofs.Judged.{judged-all, judged_end, refused_did, did-same}
 use Rattle.schema.specs.Schema.{Node, schema, schema_of}
 use Rattle.schema.proofs.Refusals.{schema-numbered}
 use Rattle.schema.specs.Table.{Accepted, Tabled, SetsIn, YieldsSchema}
-use Rattle.schema.proofs.Accepted.{schema-got, accepted-by}
+use Rattle.schema.proofs.Accepted.{schema_got, accepted_by}
 use Rattle.policies.specs.Policies.{Policy, policies}
 use Rattle.policies.specs.Pass.{pass, forced}
 use Rattle.policies.proofs.Within.{policies-numbered, pass-numbered}
@@ -39,35 +38,35 @@ module _ {B : Type 0} (P : B → Type 0) (refuse : ℕ → ℕ → ℕ → B) (r
 
 -- ---- the schema, by its reader's answer
 
-module _ (s t u : List ℕ) {x : Step} (w : YieldsSchema s x t u) where
-  module _ {n o : ℕ} (h : x ≡ Bad n o) where
-    pub schema-bad : (k : List Node → Answer) {r : Answer} → r ≡ refusal n 1 o → r ≡ with_schema refusal s k
+module _ (s t u : List ℕ) where
+  module _ {x : Breach} (w : YieldsSchema s (Err x) t u) where
+    pub schema_bad : (k : List Node → Answer) → refusal (number x.fault) 1 x.offset ≡ with_schema refusal s k
     unfolding with_schema
-    schema-bad k i = judged-bad 1 (schema s) w.answer h k i
+    schema_bad k = sym (judged_end refusal 1 (schema s) k w.answer)
 
-    pub schema-bad-did : (out : List ℕ) (k : List Node → Outcome) {r : Answer} → r ≡ refusal n 1 o → Did (with_schema (leaving out) s k) r out
+    pub schema_bad_did : (out : List ℕ) (k : List Node → Outcome) → Did (with_schema (leaving out) s k) (refusal (number x.fault) 1 x.offset) out
     unfolding with_schema
-    schema-bad-did out k i = judged-bad-did 1 (schema s) w.answer h out k i
+    schema_bad_did out k = refused_did out (judged_end (leaving out) 1 (schema s) k w.answer) refl
 
-  module _ {q : ℕ} (h : x ≡ Next q) where
-    pub schema-accepted : Accepted s
-    schema-accepted = accepted-by s w.answer h
+  module _ {r : Result ℕ Breach} {q : ℕ} (w : YieldsSchema s r t u) (e : r ≡ Ok q) where
+    answered : got tt q ≡ end_of (schema s)
+    answered = sym (ap as_end e) ∙ w.answer
 
-    pub schema-tabled : Tabled s t
-    schema-tabled = w.tabled schema-accepted
+    pub schema_accepted : Accepted s
+    schema_accepted = accepted_by s answered
 
-    pub schema-sets : SetsIn s u
-    schema-sets = w.sets schema-accepted
+    pub schema_tabled : Tabled s t
+    schema_tabled = w.tabled schema_accepted
+
+    pub schema_sets : SetsIn s u
+    schema_sets = w.sets schema_accepted
 
     schema-read : {B : Type 0} (refuse : ℕ → ℕ → ℕ → B) (k : List Node → B) → with_schema refuse s k ≡ k (schema_of s)
     unfolding with_schema judged
-    schema-read refuse k = rw (schema-got s w.answer h)
+    schema-read refuse k = rw (schema_got s answered)
 
-    pub schema-ok : (k : List Node → Answer) {r : Answer} → r ≡ k (schema_of s) → r ≡ with_schema refusal s k
-    schema-ok k d = d ∙ sym (schema-read refusal k)
+    pub schema_ok : (k : List Node → Answer) {r : Answer} → r ≡ k (schema_of s) → r ≡ with_schema refusal s k
+    schema_ok k d = d ∙ sym (schema-read refusal k)
 
-    pub schema-ok-did : (out : List ℕ) (k : List Node → Outcome) {r : Answer} {after : List ℕ} → Did (k (schema_of s)) r after → Did (with_schema (leaving out) s k) r after
-    schema-ok-did out k d = did-same (schema-read (leaving out) k) d
-
--- in the shape of a return
-pub ruleset schemas = (schema-ok, schema-ok-did, schema-bad, schema-bad-did)
+    pub schema_ok_did : (out : List ℕ) (k : List Node → Outcome) {r : Answer} {after : List ℕ} → Did (k (schema_of s)) r after → Did (with_schema (leaving out) s k) r after
+    schema_ok_did out k d = did-same (schema-read (leaving out) k) d

@@ -2,8 +2,7 @@
 -- (01, 'Reconciling', 'Checking and comparing', 'Where a number arises': 'calls check in that order, then the last rows'; 02/1).
 use Rattle.std.specs.Prelude.{ℕ, List}
 use Rattle.std.proofs.Math.Option.{Option, none, some}
-use Rattle.fields.specs.declared.Answer.{Answer}
-use Rattle.fields.specs.Answers.{success, refusal, judged}
+use Rattle.fields.specs.Answers.{Answer, success, refusal, judged}
 use Rattle.fields.specs.Outcomes.{Outcome, refused, leaving, placed}
 use Rattle.schema.specs.Schema.{Node}
 use Rattle.policies.specs.Policies.{Policy}

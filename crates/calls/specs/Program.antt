@@ -2,7 +2,8 @@
 use Rattle.std.specs.Prelude.{ℕ, zero, suc, ◌+◌, Bool, true, false, cond, List, [], ◌++◌, length, take, replicate, ltb}
 use Rattle.fields.specs.Reading.{Got, got, bad}
 use Rattle.fields.specs.Outcomes.{Outcome}
-use Rattle.lines.specs.Record.{Pass, pass_at}
+use Rattle.lines.specs.Record.{pass_at}
+use Rattle.lines.specs.declared.Days.{Days}
 use Rattle.lines.specs.Line.{line_of, bad_line_of}
 use Rattle.instances.specs.File.{most_bytes}
 use Rattle.calls.specs.Calls.{reconciling}
@@ -17,12 +18,12 @@ pass_line f p a b = line_in a b (reconciling f p a b (replicate most_bytes 0))
 
 -- the line of a record, where s stands in the input from a place on:
 -- a breach's offset is 'from the start of the input'
-unfoldable pub line_for : List ℕ → List ℕ → ℕ → Got Pass → List ℕ
-line_for f p from (got x q) = pass_line f p x.first x.last
+unfoldable pub line_for : List ℕ → List ℕ → ℕ → Got Days → List ℕ
+line_for f p from (got x q) = pass_line f p x.a x.b
 line_for f p from (bad n o) = bad_line_of n (from + o)
 
 -- a bad PS 'ends the run'
-unfoldable pub ends : Got Pass → Bool
+unfoldable pub ends : Got Days → Bool
 ends (got x q) = false
 ends (bad n o) = true
 

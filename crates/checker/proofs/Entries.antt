@@ -23,21 +23,20 @@ use Rattle.instances.proofs.Entries.{planned-length, entries-length, head-length
 use Rattle.instances.proofs.Walk.{Walk, AtNode, AtEnd, walk-exit, walk_first, walk-holds, walk_step}
 use Rattle.model.specs.Satisfaction.{choice_meets}
 use Rattle.model.specs.Comparing.{forbidden_value, forbidden_entry, or_next, forbidden_from, forbidden}
-use Rattle.checker.specs.Checks.{forbidden_in, choosing}
-use Rattle.checker.specs.declared.Forbidden.{Forbidden}
-use Rattle.checker.specs.declared.Forbidden.TheVariants.{Nowhere, At}
+use Rattle.checker.specs.Checks.{Found, forbidden_in, choosing}
+use Rattle.std.specs.Prelude.{Some, None}
 
 -- ---- an entry
 
 module _ (g : List Node) (ps : List Policy) (choices bits : List ℕ) (n p : ℕ) {x : ℕ} {c : Bool} (y : x ≡ get_or choices n 0) (e : c ≡ choice_meets g ps (choosing n x)) where
-  pub entry-no : c ≡ false → At (p + 3) ≡ forbidden_in (forbidden_entry g ps (plan_of g choices bits n) p)
+  pub entry_no : c ≡ false → Some (p + 3) ≡ forbidden_in (forbidden_entry g ps (plan_of g choices bits n) p)
   unfolding forbidden_entry choice_meets plan_of
-  entry-no h = rw (← y, sym e ∙ h)
+  entry_no h = rw (← y, sym e ∙ h)
 
-  pub entry-on : {r : Forbidden} → c ≡ true → r ≡ forbidden_in (forbidden_value ps n 0 (node_at g n).variables (values_from (node_at g n).variables bits (4 * n)) (p + 4))
+  pub entry_on : {r : Found} → c ≡ true → r ≡ forbidden_in (forbidden_value ps n 0 (node_at g n).variables (values_from (node_at g n).variables bits (4 * n)) (p + 4))
       → r ≡ forbidden_in (forbidden_entry g ps (plan_of g choices bits n) p)
   unfolding forbidden_entry choice_meets plan_of
-  entry-on h q = rw (← y, sym e ∙ h) q
+  entry_on h q = rw (← y, sym e ∙ h) q
 
 -- ---- the loop over the entries
 
@@ -46,29 +45,29 @@ pub record JudgingEntries (f choices bits : List ℕ) (ps : List Policy) (p : �
   pub room : p + length (encode_entries (schema_of f) rest) ≤ 1283
   pub same : forbidden_in (forbidden_from (schema_of f) ps rest p) ≡ forbidden_in (forbidden (schema_of f) ps (held f choices bits))
 
-pub entries-init : (f choices bits : List ℕ) (ps : List Policy) → Accepted f → Bytes f → JudgingEntries f choices bits ps 3 (held f choices bits)
+pub entries_init : (f choices bits : List ℕ) (ps : List Policy) → Accepted f → Bytes f → JudgingEntries f choices bits ps 3 (held f choices bits)
 unfolding forbidden
-entries-init f choices bits ps a b =
+entries_init f choices bits ps a b =
     record { room = omega (arith, head-length (schema_of f) (held f choices bits), planned-longest (schema_of f) (sound f b a.some) (plan_of (schema_of f) choices bits)); same = refl }
 
-first_stops : (x y : Option ℕ) {X : Forbidden} {o : ℕ} → forbidden_in (or_next x y) ≡ X → forbidden_in x ≡ At o → At o ≡ X
+first_stops : (x y : Option ℕ) {X : Found} {o : ℕ} → forbidden_in (or_next x y) ≡ X → forbidden_in x ≡ Some o → Some o ≡ X
 first_stops none y e h = absurd (let z : ◌≡◌ {A = ℕ} 0 1 = cc in omega arith)
 first_stops (some q) y e h = sym h ∙ e
 
-first_passes : (x y : Option ℕ) {X : Forbidden} → forbidden_in (or_next x y) ≡ X → forbidden_in x ≡ Nowhere → forbidden_in y ≡ X
+first_passes : (x y : Option ℕ) {X : Found} → forbidden_in (or_next x y) ≡ X → forbidden_in x ≡ None → forbidden_in y ≡ X
 first_passes none y e h = e
 first_passes (some q) y e h = absurd (let z : ◌≡◌ {A = ℕ} 0 1 = cc in omega arith)
 
 module _ (f choices bits : List ℕ) (ps : List Policy) (left p : ℕ) (w : Walk f choices bits (JudgingEntries f choices bits ps p) left) where
-  pub entries-exit : AtEnd f left → Nowhere ≡ forbidden_in (forbidden (schema_of f) ps (held f choices bits))
+  pub entries_exit : AtEnd f left → None ≡ forbidden_in (forbidden (schema_of f) ps (held f choices bits))
   unfolding forbidden_from
-  entries-exit t = (walk-exit w t).same
+  entries_exit t = (walk-exit w t).same
 
-  pub entries-head-fits : Fits w64 (p + 4)
-  entries-head-fits = record { fits = omega (arith, w.holds.room) }
+  pub entries_head_fits : Fits w64 (p + 4)
+  entries_head_fits = record { fits = omega (arith, w.holds.room) }
 
-  pub entries-fits : {x k : ℕ} → AtMost 16 x k → Fits w64 (p + 4 + k)
-  entries-fits v = record { fits = omega (arith, w.holds.room, v.most) }
+  pub entries_fits : {x k : ℕ} → AtMost 16 x k → Fits w64 (p + 4 + k)
+  entries_fits v = record { fits = omega (arith, w.holds.room, v.most) }
 
   module _ {n : ℕ} (t : AtNode f left n) where
     abbrev here : Option ℕ
@@ -77,17 +76,17 @@ module _ (f choices bits : List ℕ) (ps : List Policy) (left p : ℕ) (w : Walk
     abbrev later : Option ℕ
     later = forbidden_from (schema_of f) ps (walk_first w t).others (p + length (encode_entry (schema_of f) (plan_of (schema_of f) choices bits n)))
 
-    pub entries-room : p + 4 + values_width (node_at (schema_of f) n).variables ≤ 1283
-    entries-room = omega (arith, (walk-holds w t).room, entries-length (schema_of f) choices bits n (walk_first w t).others)
+    pub entries_room : p + 4 + values_width (node_at (schema_of f) n).variables ≤ 1283
+    entries_room = omega (arith, (walk-holds w t).room, entries-length (schema_of f) choices bits n (walk_first w t).others)
 
-    module _ {x : Forbidden} (d : x ≡ forbidden_in (forbidden_entry (schema_of f) ps (plan_of (schema_of f) choices bits n) p)) where
-      pub entries-no : {o : ℕ} → x ≡ At o → At o ≡ forbidden_in (forbidden (schema_of f) ps (held f choices bits))
+    module _ {x : Found} (d : x ≡ forbidden_in (forbidden_entry (schema_of f) ps (plan_of (schema_of f) choices bits n) p)) where
+      pub entries_no : {o : ℕ} → x ≡ Some o → Some o ≡ forbidden_in (forbidden (schema_of f) ps (held f choices bits))
       unfolding forbidden_from
-      entries-no e = first_stops here later (walk-holds w t).same (sym d ∙ e)
+      entries_no e = first_stops here later (walk-holds w t).same (sym d ∙ e)
 
-      pub entries-step : {u k : ℕ} → AtMost 16 (values_width (node_at (schema_of f) n).variables) k → x ≡ Nowhere → u ≡ turned left n → Walk f choices bits (JudgingEntries f choices bits ps (p + 4 + k)) u
+      pub entries_step : {u k : ℕ} → AtMost 16 (values_width (node_at (schema_of f) n).variables) k → x ≡ None → u ≡ turned left n → Walk f choices bits (JudgingEntries f choices bits ps (p + 4 + k)) u
       unfolding forbidden_from
-      entries-step {k = k} v e u =
+      entries_step {k = k} v e u =
           let z : p + length (encode_entry (schema_of f) (plan_of (schema_of f) choices bits n)) ≡ p + 4 + k = omega (arith, planned-length (schema_of f) choices bits n, v.is) in
           walk_step w t u
           (record {

@@ -24,25 +24,29 @@ use Rattle.instances.proofs.Node.{vars-more}
 use Rattle.instances.proofs.Lengths.{width-number, width-listed}
 use Rattle.model.specs.Satisfaction.{admitted}
 use Rattle.model.specs.Comparing.{forbidden_value}
-use Rattle.checker.specs.Checks.{forbidden_in}
-use Rattle.checker.specs.declared.Forbidden.{Forbidden}
-use Rattle.checker.specs.declared.Forbidden.TheVariants.{Nowhere, At}
+use Rattle.checker.specs.Checks.{Found, forbidden_in}
+use Rattle.std.specs.Prelude.{Some, None}
+
+span-most : (v : Variable) → span v ≤ 8
+unfolding span
+span-most (Number lo hi) = omega arith
+span-most (Listed size) = omega arith
 
 -- those from variable k on are left, whose value stands at p, and whose condition so far after a PN's first rank
-pub record Judging (g : List Node) (ps : List Policy) (n : ℕ) (bits : List ℕ) (X : Forbidden) (k p skip : ℕ) : Type 0 where
+pub record Judging (g : List Node) (ps : List Policy) (n : ℕ) (bits : List ℕ) (X : Found) (k p skip : ℕ) : Type 0 where
   pub rest : forbidden_in (forbidden_value ps n k (drop k (node_at g n).variables) (values_from (drop k (node_at g n).variables) bits (4 * n + k)) p) ≡ X
   pub room : p + values_width (drop k (node_at g n).variables) ≤ 1283
   pub place : skip ≡ offset_of (node_at g n) k
   pub small : skip ≤ 8 + 8 * k
 
-pub judging-init : (g : List Node) (ps : List Policy) (n : ℕ) (bits : List ℕ) (p : ℕ) {skip : ℕ} → p + values_width (node_at g n).variables ≤ 1283 → AtMost 8 (rank_count (node_at g n)) skip
+pub judging_init : (g : List Node) (ps : List Policy) (n : ℕ) (bits : List ℕ) (p : ℕ) {skip : ℕ} → p + values_width (node_at g n).variables ≤ 1283 → AtMost 8 (rank_count (node_at g n)) skip
     → Judging g ps n bits (forbidden_in (forbidden_value ps n 0 (node_at g n).variables (values_from (node_at g n).variables bits (4 * n)) p)) 0 p skip
-judging-init g ps n bits p r m = record { rest = rw (add-zero (4 * n)); room = r; place = offset-first (node_at g n) m; small = omega (arith, m.most) }
+judging_init g ps n bits p r m = record { rest = rw (add-zero (4 * n)); room = r; place = offset-first (node_at g n) m; small = omega (arith, m.most) }
 
-module _ (g : List Node) (ps : List Policy) (n : ℕ) (bits : List ℕ) {X : Forbidden} (k p skip : ℕ) {m : ℕ} (w : Judging g ps n bits X k p skip) (l : AtMost 4 (length (node_at g n).variables) m) where
-  pub judging-exit : m ≤ k → Nowhere ≡ X
+module _ (g : List Node) (ps : List Policy) (n : ℕ) (bits : List ℕ) {X : Found} (k p skip : ℕ) {m : ℕ} (w : Judging g ps n bits X k p skip) (l : AtMost 4 (length (node_at g n).variables) m) where
+  pub judging_exit : m ≤ k → None ≡ X
   unfolding forbidden_value
-  judging-exit h =
+  judging_exit h =
       let d : drop k (node_at g n).variables ≡ [] = drop_of_length-le (node_at g n).variables {i = k} (omega (arith, l.is)) in
       sym (ap (λ (l : List Variable). forbidden_in (forbidden_value ps n k l (values_from l bits (4 * n + k)) p)) d) ∙ w.rest
 
@@ -67,41 +71,35 @@ module _ (g : List Node) (ps : List Policy) (n : ℕ) (bits : List ℕ) {X : For
     unfolding forbidden_value values_from
     judged = sym (ap (λ (l : List Variable). forbidden_in (forbidden_value ps n k l (values_from l bits (4 * n + k)) p)) first) ∙ w.rest
 
-    pub judging-below : k < length (node_at g n).variables
-    judging-below = omega (arith, l.is)
+    pub judging_below : k < length (node_at g n).variables
+    judging_below = omega (arith, l.is)
 
-    pub judging-place : skip ≡ offset_of (node_at g n) k
-    judging-place = w.place
+    pub judging_place : skip ≡ offset_of (node_at g n) k
+    judging_place = w.place
 
-    pub judging-no : {r : Bool} → r ≡ admitted ps n k v (value_of v value) → r ≡ false → At p ≡ X
-    judging-no q t =
+    pub judging_no : {r : Bool} → r ≡ admitted ps n k v (value_of v value) → r ≡ false → Some p ≡ X
+    judging_no q t =
         sym (ap (λ (b : Bool). forbidden_in (cond b (forbidden_value ps n (k + 1) vs (values_from vs bits (4 * n + k + 1)) (p + value_width v)) (some p))) (sym q ∙ t)) ∙ judged
 
-    next : admitted ps n k v (value_of v value) ≡ true → (a b : ℕ) → value_width v ≡ a → span v ≡ b → b ≤ 8 → Judging g ps n bits X (k + 1) (p + a) (skip + b)
-    next t a b ea eb o =
+    pub value_fits : {x : Variable} {y : ℕ} → x ≡ v → y ≡ value_width x → Fits w64 (p + y)
+    value_fits e i = record { fits = omega (arith, w.room, widths, i ∙ ap value_width e) }
+
+    pub skip_fits : (x : Variable) {y : ℕ} → y ≡ span x → Fits w64 (skip + y)
+    skip_fits x i = record { fits = omega (arith, l.is, l.most, w.small, i, span-most x) }
+
+    pub judging_step : {r : Bool} {x : Variable} {a b : ℕ} → r ≡ admitted ps n k v (value_of v value) → r ≡ true → x ≡ v → a ≡ value_width x → b ≡ span x
+        → Judging g ps n bits X (k + 1) (p + a) (skip + b)
+    judging_step {x = x} {a} {b} q t e i o =
         let j : 4 * n + k + 1 ≡ 4 * n + (k + 1) = omega arith in
+        let ea : a ≡ value_width v = i ∙ ap value_width e in
+        let eb : b ≡ span v = o ∙ ap span e in
         record {
           rest =
               ap (λ (i : ℕ). forbidden_in (forbidden_value ps n (k + 1) vs (values_from vs bits i) (p + a))) (sym j)
-              ∙ ap (λ (i : ℕ). forbidden_in (forbidden_value ps n (k + 1) vs (values_from vs bits (4 * n + k + 1)) (p + i))) (sym ea)
-              ∙ sym (ap (λ (b : Bool). forbidden_in (cond b (forbidden_value ps n (k + 1) vs (values_from vs bits (4 * n + k + 1)) (p + value_width v)) (some p))) t)
+              ∙ ap (λ (i : ℕ). forbidden_in (forbidden_value ps n (k + 1) vs (values_from vs bits (4 * n + k + 1)) (p + i))) ea
+              ∙ sym (ap (λ (b : Bool). forbidden_in (cond b (forbidden_value ps n (k + 1) vs (values_from vs bits (4 * n + k + 1)) (p + value_width v)) (some p))) (sym q ∙ t))
               ∙ judged;
-          room = omega (arith, w.room, widths);
-          place = ap (λ (i : ℕ). skip + i) (sym eb) ∙ offset-next (node_at g n) k w.place judging-below;
-          small = omega (arith, w.small);
+          room = omega (arith, w.room, widths, ea);
+          place = ap (λ (i : ℕ). skip + i) eb ∙ offset-next (node_at g n) k w.place judging_below;
+          small = omega (arith, w.small, eb, span-most v);
         }
-
-    module _ {r : Bool} (q : r ≡ admitted ps n k v (value_of v value)) (t : r ≡ true) {x : Variable} (e : x ≡ v) where
-      module _ {lo hi : ℤ} (i : x ≡ Number lo hi) where
-        pub number_fits : Fits w64 (p + 4)
-        number_fits = record { fits = omega (arith, w.room, widths, width-number v (sym e ∙ i)) }
-
-        pub judging-number : Judging g ps n bits X (k + 1) (p + 4) (skip + 8)
-        judging-number = next (sym q ∙ t) 4 8 (sym (width-number v (sym e ∙ i))) (span-of-number (sym e ∙ i)) (omega arith)
-
-      module _ {size : ℕ} (i : x ≡ Listed size) where
-        pub listed-fits : Fits w64 (p + 1)
-        listed-fits = record { fits = omega (arith, w.room, widths, width-listed v (sym e ∙ i)) }
-
-        pub judging-listed : Judging g ps n bits X (k + 1) (p + 1) (skip + 4)
-        judging-listed = next (sym q ∙ t) 1 4 (sym (width-listed v (sym e ∙ i))) (span-of-listed (sym e ∙ i)) (omega arith)

@@ -1,15 +1,16 @@
 -- What the checker's functions tell of an instance that was read.
 -- For the contracts of functions that no other crate calls.
-use Rattle.std.specs.Prelude.{ℕ, []}
+use Rattle.std.specs.Prelude.{ℕ, [], Option as Answered, Some, None}
 use Rattle.std.proofs.Math.Option.{Option, none, some}
 use Rattle.instances.specs.Instance.{Entry}
-use Rattle.checker.specs.declared.Forbidden.{Forbidden}
-use Rattle.checker.specs.declared.Forbidden.TheVariants.{Nowhere, At}
 
--- the offset of the first field that is forbidden
-abbrev pub forbidden_in : Option ℕ → Forbidden
-forbidden_in none = Nowhere
-forbidden_in (some o) = At o
+-- the offset of the first field that is forbidden, if there is one, as the code answers it
+abbrev pub Found : Type 0
+Found = Answered ℕ
+
+abbrev pub forbidden_in : Option ℕ → Found
+forbidden_in none = None
+forbidden_in (some o) = Some o
 
 -- an entry of node n with choice s, whatever its values
 abbrev pub choosing : ℕ → ℕ → Entry

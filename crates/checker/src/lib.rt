@@ -2,7 +2,7 @@
 #![tactic(auto)]
 
 ghost use Rattle.std.specs.Prelude.{◌≡◌, ◌+◌, ◌≤◌};
-ghost use Rattle.fields.specs.Answers.{refusal};
+ghost use Rattle.fields.specs.Answers.{answer_of, refusal};
 ghost use Rattle.schema.specs.Schema.{schema_of, node_at};
 ghost use Rattle.schema.specs.Table.{Accepted, Tabled, Room, NodeIn};
 ghost use Rattle.policies.specs.Rows.{RowsRoom, noted, Noted};
@@ -14,20 +14,11 @@ ghost use Rattle.calls.specs.Inputs.{with_in_force};
 ghost use Rattle.calls.specs.Calls.{checking_in_force, checking};
 ghost use Rattle.checker.specs.Checks.{forbidden_in, choosing};
 
-use fields::{Answer, Step};
-use inputs::Inputs;
-use instance_reader::InstanceRead;
-use instances::{ENTRY_WIDTH, HEAD_WIDTH, LISTED_WIDTH, NUMBER_WIDTH};
+use fields::{Breach, Fault, File, Refusal};
+use instances::{ENTRY_WIDTH, HEAD_WIDTH};
 use nodes::{FEW_NODES, FEW_TABLE_SLOTS, TABLE_SLOTS};
-use policies::{MASK_WIDTH, RANGE_WIDTH, ROW_SLOTS};
-use schema::{MOST_NODES, MOST_VARIABLES, Variable};
-
-// The offset of the first field that is forbidden, if there is one.
-#[derive(Clone, Copy)]
-enum Forbidden {
-    Nowhere,
-    At { offset: usize },
-}
+use policies::ROW_SLOTS;
+use schema::{MOST_NODES, MOST_VARIABLES};
 
 // Whether every policy that the rows note allows choice x of node n.
 fn choice_allowed(schema: &[u8], table: &[u16], p: &[u8], rows: &[u16], n: usize, x: usize) -> bool
@@ -43,6 +34,7 @@ fn choice_allowed(schema: &[u8], table: &[u16], p: &[u8], rows: &[u16], n: usize
 }
 
 // The first of node n's values, which stand from an offset of the file on, that a noted policy does not admit.
+#[tactic(auto, using(crate::proofs::Values::judging_init, crate::proofs::Values::judging_below, crate::proofs::Values::judging_place, crate::proofs::Values::judging_no, crate::proofs::Values::judging_exit))]
 fn first_value(
     schema: &[u8],
     table: &[u16],
@@ -51,7 +43,7 @@ fn first_value(
     n: usize,
     bits: &[u32],
     from: usize,
-) -> Forbidden
+) -> Option<usize>
     requires node_in { NodeIn schema.now table.now n }
     requires noted { Noted schema.now p.now rows.now }
     requires bits_room { BitsRoom schema.now bits.now }
@@ -61,30 +53,20 @@ fn first_value(
     let count = nodes::variable_count(schema, table, n);
     let mut skip = nodes::rank_count(schema, table, n);
     let mut at = from;
-    let mut k: usize = 0;
-    while k < count {
+    for k in 0..count {
         let value = bits[MOST_VARIABLES * n + k];
-        if conditions::is_admitted(schema, table, p, rows, n, k, skip, value) {
-            match nodes::variable_of(schema, table, n, k) {
-                Variable::Number { lo: _, hi: _ } => {
-                    at += NUMBER_WIDTH;
-                    skip += RANGE_WIDTH;
-                    k += 1;
-                }
-                Variable::Listed { size: _ } => {
-                    at += LISTED_WIDTH;
-                    skip += MASK_WIDTH;
-                    k += 1;
-                }
-            }
-        } else {
-            return Forbidden::At { offset: at };
+        if !conditions::is_admitted(schema, table, p, rows, n, k, skip, value) {
+            return Some(at);
         }
+        let v = nodes::variable_of(schema, table, n, k);
+        at += lookup::value_width(v);
+        skip += policies::condition_width(v);
     }
-    Forbidden::Nowhere
+    None
 }
 
 // The first forbidden field of node n's entry, which stands at an offset of the file.
+#[tactic(auto, using(crate::proofs::Entries::entry_on))]
 fn first_in_entry(
     schema: &[u8],
     table: &[u16],
@@ -94,22 +76,23 @@ fn first_in_entry(
     choices: &[u8; MOST_NODES],
     bits: &[u32],
     at: usize,
-) -> Forbidden
+) -> Option<usize>
     requires node_in { NodeIn schema.now table.now n }
     requires noted { Noted schema.now p.now rows.now }
     requires bits_room { BitsRoom schema.now bits.now }
     requires n_bound { at + 4 + values_width (node_at (schema_of schema.now) n).variables ≤ most_bytes }
     ensures { result ≡ forbidden_in (forbidden_entry (schema_of schema.now) (noted (schema_of schema.now) p.now rows.now) (plan_of (schema_of schema.now) choices.now bits.now n) at) }
 {
-    let x = fields::wide(choices[n]);
+    let x = choices[n] as usize;
     if choice_allowed(schema, table, p, rows, n, x) {
         return first_value(schema, table, p, rows, n, bits, at + ENTRY_WIDTH);
     }
-    Forbidden::At { offset: at + 3 }
+    Some(at + 3)
 }
 
 // The first forbidden field of the instance that the arrays hold, whose nodes are these: the lowest node's entry stands
 // first.
+#[tactic(auto, using(crate::proofs::Entries::entries_init, crate::proofs::Entries::entries_room, crate::proofs::Entries::entries_head_fits, crate::proofs::Entries::entries_no, crate::proofs::Entries::entries_fits, crate::proofs::Entries::entries_step, crate::proofs::Entries::entries_exit))]
 fn first_forbidden(
     schema: &[u8],
     table: &[u16],
@@ -118,7 +101,7 @@ fn first_forbidden(
     nodes: u64,
     choices: &[u8; MOST_NODES],
     bits: &[u32],
-) -> Forbidden
+) -> Option<usize>
     requires accepted { Accepted schema.now }
     requires tabled { Tabled schema.now table.now }
     requires noted { Noted schema.now p.now rows.now }
@@ -130,40 +113,36 @@ fn first_forbidden(
     let mut at = HEAD_WIDTH;
     while 0 < left {
         let n = numbers::lowest(left);
-        match first_in_entry(schema, table, p, rows, n, choices, bits, at) {
-            Forbidden::At { offset } => {
-                return Forbidden::At { offset };
-            }
-            Forbidden::Nowhere => {
-                at = at + ENTRY_WIDTH + lookup::values_width(schema, table, n);
-                left = numbers::turned_bit(left, n);
-            }
+        if let Some(offset) = first_in_entry(schema, table, p, rows, n, choices, bits, at) {
+            return Some(offset);
         }
+        at = at + ENTRY_WIDTH + lookup::values_width(schema, table, n);
+        left = numbers::turned_bit(left, n);
     }
-    Forbidden::Nowhere
+    None
 }
 
 // The instance, once schema, policies and pass are accepted: the rows note the policies in force.
-fn in_force(schema: &[u8], table: &[u16], p: &[u8], rows: &[u16], s: &[u8]) -> Answer
+#[tactic(auto, using(instances::proofs::Slots::bits_64, crate::proofs::Answers::instance_bad))]
+fn in_force(schema: &[u8], table: &[u16], p: &[u8], rows: &[u16], s: &[u8]) -> Result<(), Refusal>
     requires accepted { Accepted schema.now }
     requires tabled { Tabled schema.now table.now }
     requires noted { Noted schema.now p.now rows.now }
-    ensures { result ≡ checking_in_force (schema_of schema.now) (noted (schema_of schema.now) p.now rows.now) s.now }
+    ensures { answer_of (λ _. 0) result ≡ checking_in_force (schema_of schema.now) (noted (schema_of schema.now) p.now rows.now) s.now }
 {
     let mut choices = [255u8; MOST_NODES];
     let mut bits = [0u32; MOST_VARIABLES * MOST_NODES];
-    match instance_reader::read_instance(schema, table, s, &mut choices, &mut bits) {
-        InstanceRead::NoInstance { number, offset } => fields::refusal(number, 4, offset),
-        InstanceRead::Instance { nodes } => {
-            match first_forbidden(schema, table, p, rows, nodes, &choices, &bits) {
-                Forbidden::Nowhere => fields::success(0),
-                Forbidden::At { offset } => fields::refusal(18, 4, offset),
-            }
-        }
+    let nodes = instance_reader::read_instance(schema, table, s, &mut choices, &mut bits).map_err(
+        |breach| breach.of(File::Instance),
+    )?;
+    match first_forbidden(schema, table, p, rows, nodes, &choices, &bits) {
+        None => Ok(()),
+        Some(offset) => Err(Breach::new(Fault::Forbidden, offset).of(File::Instance)),
     }
 }
 
 // Policies and pass, once the schema is accepted, with room for the rows.
+#[tactic(auto, using(inputs::proofs::Above::in_force_noted, inputs::proofs::Above::in_force_bad, inputs::proofs::Above::in_force_checked))]
 fn with_rows(
     schema: &[u8],
     table: &[u16],
@@ -172,23 +151,29 @@ fn with_rows(
     b: u16,
     s: &[u8],
     rows: &mut [u16],
-) -> Answer
+) -> Result<(), Refusal>
     requires accepted { Accepted schema.now }
     requires tabled { Tabled schema.now table.now }
     requires rows_room { RowsRoom schema.now rows.old }
-    ensures { result ≡ with_in_force refusal (schema_of schema.now) p.now a b (λ ps. checking_in_force (schema_of schema.now) ps s.now) }
+    ensures { answer_of (λ _. 0) result ≡ with_in_force refusal (schema_of schema.now) p.now a b (λ ps. checking_in_force (schema_of schema.now) ps s.now) }
 {
-    match inputs::read_in_force(schema, table, p, a, b, rows) {
-        Inputs::Refused { answer } => answer,
-        Inputs::Read => in_force(schema, table, p, rows, s),
-    }
+    inputs::read_in_force(schema, table, p, a, b, rows)?;
+    in_force(schema, table, p, rows, s)
 }
 
 // Policies and pass, once the schema is accepted; few nodes have few rows, which are sooner cleared.
-fn with_schema(schema: &[u8], table: &[u16], p: &[u8], a: u16, b: u16, s: &[u8]) -> Answer
+#[tactic(auto, using(inputs::proofs::Above::rows_16, inputs::proofs::Above::rows_64))]
+fn with_schema(
+    schema: &[u8],
+    table: &[u16],
+    p: &[u8],
+    a: u16,
+    b: u16,
+    s: &[u8],
+) -> Result<(), Refusal>
     requires accepted { Accepted schema.now }
     requires tabled { Tabled schema.now table.now }
-    ensures { result ≡ with_in_force refusal (schema_of schema.now) p.now a b (λ ps. checking_in_force (schema_of schema.now) ps s.now) }
+    ensures { answer_of (λ _. 0) result ≡ with_in_force refusal (schema_of schema.now) p.now a b (λ ps. checking_in_force (schema_of schema.now) ps s.now) }
 {
     let count = nodes::count_of(schema);
     if count <= FEW_NODES {
@@ -200,6 +185,7 @@ fn with_schema(schema: &[u8], table: &[u16], p: &[u8], a: u16, b: u16, s: &[u8])
 }
 
 // The schema, with room for its tables, then the rest.
+#[tactic(auto, using(calls::proofs::Inputs::schema_bad), unfolding(calls::specs::Calls::checking))]
 fn with_tables(
     schema: &[u8],
     p: &[u8],
@@ -208,20 +194,19 @@ fn with_tables(
     s: &[u8],
     table: &mut [u16],
     sets: &mut [u64],
-) -> Answer
+) -> Result<(), Refusal>
     requires { Room schema.now table.old sets.old }
-    ensures { result ≡ checking schema.now p.now a b s.now }
+    ensures { answer_of (λ _. 0) result ≡ checking schema.now p.now a b s.now }
 {
-    match schema::read_schema(schema, table, sets) {
-        Step::Bad { number, offset } => fields::refusal(number, 1, offset),
-        Step::Next { at: _ } => with_schema(schema, table, p, a, b, s),
-    }
+    schema::read_schema(schema, table, sets).map_err(|breach| breach.of(File::Schema))?;
+    with_schema(schema, table, p, a, b, s)
 }
 
 // The answer for schema, policies, a pass from day a to day b and an instance; few nodes have short tables, which are sooner
 // cleared.
-pub fn check(schema: &[u8], policies: &[u8], a: u16, b: u16, instance: &[u8]) -> Answer
-    ensures { result ≡ checking schema.now policies.now a b instance.now }
+#[tactic(auto, using(schema::proofs::Fill::room_16, schema::proofs::Fill::room_64))]
+pub fn check(schema: &[u8], policies: &[u8], a: u16, b: u16, instance: &[u8]) -> Result<(), Refusal>
+    ensures { answer_of (λ _. 0) result ≡ checking schema.now policies.now a b instance.now }
 {
     let count = schema::count_in(schema);
     if count <= FEW_NODES {

@@ -5,7 +5,8 @@ use mathlib.Core.List.{List, [], ◌++◌, append_assoc, append-nil}
 use Prim.Native.Nat.{ℕ, suc, ◌+◌, ◌*◌, ◌-◌, ◌≤◌, ◌<◌}
 use native.Mathlib.Omega.{arith}
 use native.Mathlib.Nat.{add-zero}
-use lib.ListN.{length, get_or, set, drop, drop_of_length-le}
+use lib.ListN.{length, get_or, set, take, drop, drop_of_length-le}
+use borrow.Rule.Slice.PartMut.{put_mid}
 use Rattle.fields.specs.Writing.{Wrote}
 use Rattle.fields.proofs.Bytes.{Bytes}
 use Rattle.fields.proofs.Putting.{Putting, putting-init, putting-step, putting-exit, wrote_then, wrote-byte}
@@ -21,6 +22,7 @@ use Rattle.instances.specs.Plan.{nodes_of, values_from, plan_of, held}
 use Rattle.instances.proofs.Node.{vars-more}
 use Rattle.instances.proofs.Walk.{Walk, AtNode, AtEnd, held-count, walk-exit, walk_first, walk-holds, walk_step}
 use Rattle.columns.specs.Sheet.{spaces, right_aligned, signed_decimal, choice_column, value_columns, sheet_line, sheet, line_bytes}
+use Rattle.columns.proofs.Columns.{spaces_wrote, spaces_long}
 use Rattle.columns.proofs.Lengths.{no-values}
 
 -- ---- a node's values
@@ -35,17 +37,17 @@ pub record PuttingValues (x : Node) (bits : List ℕ) (n k : ℕ) (b₀ : List �
   pub offset : at ≡ from + 12 * k
   pub upto : k ≤ 4
 
-pub values-init : (x : Node) (bits : List ℕ) (n : ℕ) (b : List ℕ) (from : ℕ) → PuttingValues x bits n 0 b from b from
-values-init x bits n b from =
+pub values_init : (x : Node) (bits : List ℕ) (n : ℕ) (b : List ℕ) (from : ℕ) → PuttingValues x bits n 0 b from b from
+values_init x bits n b from =
     record { done = rw (add-zero (4 * n)) (putting-init b from (value_columns 4 (values_from x.variables bits (4 * n)))); offset = omega arith; upto = omega arith }
 
 module _ (x : Node) (bits : List ℕ) (n k : ℕ) (b₀ : List ℕ) (from : ℕ) (b : List ℕ) (at : ℕ) {c : ℕ} (w : PuttingValues x bits n k b₀ from b at)
     (l : AtMost 4 (length x.variables) c) (r : from + 48 ≤ length b₀) where
-  pub values-step : {v : Variable} {d : List ℕ} → k < c → v ≡ get_or x.variables k no_variable
+  pub values_step : {v : Variable} {d : List ℕ} → k < c → v ≡ get_or x.variables k no_variable
       → Wrote b at (spaces 1 ++ right_aligned 11 (signed_decimal (value_of v (get_or bits (4 * n + k) 0)))) d (at + 12) → length d ≡ length b
       → PuttingValues x bits n (k + 1) b₀ from d (at + 12)
   unfolding values_from value_columns
-  values-step {v} h e q y =
+  values_step {v} h e q y =
       let text = right_aligned 11 (signed_decimal (value_of v (get_or bits (4 * n + k) 0))) in
       let j : 4 - k ≡ suc (4 - (k + 1)) = omega arith in
       let i : 4 * n + (k + 1) ≡ 4 * n + k + 1 = omega arith in
@@ -56,10 +58,16 @@ module _ (x : Node) (bits : List ℕ) (n k : ℕ) (b₀ : List ℕ) (from : ℕ)
         upto = omega arith;
       }
 
-  pub values-exit : {d : List ℕ} → c ≤ k → Wrote b at (spaces (from + 48 - at)) d (from + 48) → length d ≡ length b
-      → Wrote b₀ from (value_columns 4 (values_from x.variables bits (4 * n))) d (from + 48)
+  pub values_end : at ≤ from + 48
+  values_end = omega (arith, w.offset, w.upto)
+
+  pub values_exit : {ys : List ℕ} → c ≤ k → ys ≡ spaces (length (take (from + 48 - at) (drop at b)))
+      → Wrote b₀ from (value_columns 4 (values_from x.variables bits (4 * n))) (put_mid at (from + 48 - at) b ys) (from + 48)
   unfolding values_from
-  values-exit h q y =
+  values_exit h e =
+      let long : from + 48 ≤ length b = omega (arith, w.done.long) in
+      let q = spaces_wrote b at (from + 48) values_end long e in
+      let y = spaces_long b at (from + 48) values_end long e in
       let z : 12 * (4 - k) ≡ from + 48 - at = omega arith in
       let m : columns_from x bits n k ≡ spaces (from + 48 - at) ++ [] =
       rw (drop_of_length-le x.variables {i = k} (omega arith)) (no-values (4 - k) ∙ ap spaces z ∙ sym (append-nil (spaces (from + 48 - at)))) in
@@ -87,18 +95,18 @@ pub record PuttingLines (f choices bits b₀ : List ℕ) (at : ℕ) (b : List �
   pub done : Putting b₀ 0 (sheet (held f choices bits)) b at (sheet rest)
   pub room : at + line_bytes * length rest ≤ length b
 
-pub lines-init : (f choices bits b : List ℕ) {left : ℕ} → Accepted f → Bytes f → left ≡ nodes_of (held f choices bits) → line_bytes * cardinality left ≤ length b
+pub lines_init : (f choices bits b : List ℕ) {left : ℕ} → Accepted f → Bytes f → left ≡ nodes_of (held f choices bits) → line_bytes * cardinality left ≤ length b
     → PuttingLines f choices bits b 0 b (held f choices bits)
-lines-init f choices bits b a x e h =
+lines_init f choices bits b a x e h =
     record { done = putting-init b 0 (sheet (held f choices bits)); room = omega (arith, held-count f choices bits a x, ap cardinality e) }
 
 module _ {f choices bits b₀ : List ℕ} {left at : ℕ} {b : List ℕ} (w : Walk f choices bits (PuttingLines f choices bits b₀ at b) left) where
-  pub lines-exit : AtEnd f left → Wrote b₀ 0 (sheet (held f choices bits)) b at
+  pub lines_exit : AtEnd f left → Wrote b₀ 0 (sheet (held f choices bits)) b at
   unfolding sheet
-  lines-exit t = putting-exit (walk-exit w t).done
+  lines_exit t = putting-exit (walk-exit w t).done
 
-  pub lines-room : {n : ℕ} → Accepted f → Bytes f → 0 < left → Lowest 64 left n → at + line_bytes ≤ length b
-  lines-room a x h e = let k = walk-holds w (record { accepted = a; bytes = x; some = h; lowest = e }) in omega (arith, k.room)
+  pub lines_room : {n : ℕ} → Accepted f → Bytes f → 0 < left → Lowest 64 left n → at + line_bytes ≤ length b
+  lines_room a x h e = let k = walk-holds w (record { accepted = a; bytes = x; some = h; lowest = e }) in omega (arith, k.room)
 
   pub lines_step : {n : ℕ} → AtNode f left n → {u : ℕ} {d : List ℕ} → u ≡ turned left n → Wrote b at (sheet_line (plan_of (schema_of f) choices bits n)) d (at + line_bytes) → length d ≡ length b
       → Walk f choices bits (PuttingLines f choices bits b₀ (at + line_bytes) d) u

@@ -25,26 +25,13 @@ const VALUES_WIDTH: usize = MOST_VARIABLES * VALUE_WIDTH;
 // The bytes of a line: node, choice, values and the line feed.
 pub const LINE_BYTES: usize = NODE_WIDTH + CHOICE_WIDTH + VALUES_WIDTH + 1;
 
-// Spaces from an offset up to another.
-fn put_spaces(out: &mut [u8], from: usize, end: usize)
-    requires from_le_end { from ≤ end }
-    requires end_in_bounds { end ≤ length out.old }
-    ensures { Wrote out.old from (spaces (end - from)) out.new end }
-{
-    let mut at = from;
-    while at < end {
-        out[at] = b' ';
-        at += 1;
-    }
-}
-
 // A number right-aligned in so many columns.
 fn put_right(out: &mut [u8], at: usize, width: usize, x: u64)
     requires x_len_bound { length (decimal x) ≤ width }
     requires width_in_bounds { at + width ≤ length out.old }
     ensures { Wrote out.old at (right_aligned width (decimal x)) out.new (at + width) }
 {
-    put_spaces(out, at, at + width);
+    out[at..at + width].fill(b' ');
     decimals::put_ending(out, at + width, x);
 }
 
@@ -54,7 +41,7 @@ fn put_negative(out: &mut [u8], at: usize, width: usize, x: u64)
     requires width_in_bounds { at + width ≤ length out.old }
     ensures { Wrote out.old at (right_aligned width (45 ∷ decimal x)) out.new (at + width) }
 {
-    put_spaces(out, at, at + width);
+    out[at..at + width].fill(b' ');
     let first = decimals::put_ending(out, at + width, x);
     out[first - 1] = b'-';
 }
@@ -65,13 +52,10 @@ fn put_choice(out: &mut [u8], at: usize, c: u8)
     ensures { Wrote out.old at (spaces 1 ++ choice_column c) out.new (at + 4) }
 {
     if c == 255 {
-        out[at] = b' ';
-        out[at + 1] = b'-';
-        out[at + 2] = b'-';
-        out[at + 3] = b'-';
-        return;
+        out[at..at + CHOICE_WIDTH].copy_from_slice(b" ---");
+    } else {
+        put_right(out, at, CHOICE_WIDTH, c as u64);
     }
-    put_right(out, at, CHOICE_WIDTH, c as u64);
 }
 
 // A value, whose bits these are, a space before it.
@@ -80,14 +64,14 @@ fn put_value(v: Variable, u: u32, out: &mut [u8], at: usize)
     ensures { Wrote out.old at (spaces 1 ++ right_aligned 11 (signed_decimal (value_of v u))) out.new (at + 12) }
 {
     match v {
-        Variable::Number { lo: _, hi: _ } => {
+        Variable::Number { .. } => {
             if u < 0x8000_0000 {
                 put_right(out, at, VALUE_WIDTH, u as u64);
             } else {
                 put_negative(out, at, VALUE_WIDTH, 0x1_0000_0000 - u as u64);
             }
         }
-        Variable::Listed { size: _ } => put_right(out, at, VALUE_WIDTH, u as u64),
+        Variable::Listed { .. } => put_right(out, at, VALUE_WIDTH, u as u64),
     }
 }
 
@@ -98,17 +82,13 @@ fn put_values(schema: &[u8], table: &[u16], n: usize, bits: &[u32], out: &mut [u
     requires from_in_bounds { from + 48 ≤ length out.old }
     ensures { Wrote out.old from (value_columns 4 (values_from (node_at (schema_of schema.now) n).variables bits.now (values_slot n))) out.new (from + 48) }
 {
-    let count = nodes::variable_count(schema, table, n);
-    let mut k: usize = 0;
     let mut at = from;
-    while k < count {
+    for k in 0..nodes::variable_count(schema, table, n) {
         let v = nodes::variable_of(schema, table, n, k);
-        let u = bits[MOST_VARIABLES * n + k];
-        put_value(v, u, out, at);
+        put_value(v, bits[MOST_VARIABLES * n + k], out, at);
         at += VALUE_WIDTH;
-        k += 1;
     }
-    put_spaces(out, at, from + VALUES_WIDTH);
+    out[at..from + VALUES_WIDTH].fill(b' ');
 }
 
 // The line of node n's entry, as the arrays hold it.

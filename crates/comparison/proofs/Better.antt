@@ -21,11 +21,11 @@ module _ (g : List Node) (qs : List Policy) (n x y : ℕ) {c d : ℕ} (a : AtMos
   compared : r ≡ rank_order (rules_for n qs) (column_of x (node_at g n).successors) (column_of y (node_at g n).successors)
   compared = e ∙ ap₂ (rank_order (rules_for n qs)) a.is b.is
 
-  pub ranks-before : r ≡ Before → true ≡ better g qs n x y
-  ranks-before h = sym (better-before g qs n x y compared h)
+  pub ranks_before : r ≡ Before → true ≡ better g qs n x y
+  ranks_before h = sym (better-before g qs n x y compared h)
 
-  pub ranks-after : r ≡ After → false ≡ better g qs n x y
-  ranks-after h = sym (better-after g qs n x y compared h)
+  pub ranks_after : r ≡ After → false ≡ better g qs n x y
+  ranks_after h = sym (better-after g qs n x y compared h)
 
-  pub ranks-alike : r ≡ Alike → ltb x y ≡ better g qs n x y
-  ranks-alike h = sym (better-alike g qs n x y compared h)
+  pub ranks_alike : r ≡ Alike → ltb x y ≡ better g qs n x y
+  ranks_alike h = sym (better-alike g qs n x y compared h)

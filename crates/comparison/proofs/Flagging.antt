@@ -1,12 +1,13 @@
 -- The sweep over the nodes from the highest to 0: from node n up, the flags of the nodes that the first instance reaches are right.
 -- Rests on `good-by-table` of the model: a table that is right above a node gives what is right at it.
 use mathlib.Core.Path.{◌≡◌, refl, ap, ap₂, sym, subst, ◌∙◌}
-use mathlib.Core.Bool.{Bool, true, false, cond}
+use mathlib.Core.Bool.{Bool, true, false}
 use mathlib.Core.List.{List}
 use Prim.Native.Nat.{ℕ, ◌-◌, ◌≤◌, ◌<◌}
 use native.Mathlib.Omega.{arith}
 use native.Mathlib.Decide.{dec_lt}
 use lib.Dec.{eqb}
+use mir.Val.{bool_byte}
 use lib.ListN.{length, get_or, set, replicate, length-set, length-replicate}
 use lib.Seq.{get_or-set_same, get_or-set_other}
 use Rattle.fields.proofs.Bytes.{Bytes}
@@ -57,8 +58,8 @@ module _ (schema p rows first second : List ℕ) where
   abbrev ps : List Policy
   ps = noted (schema_of schema) p rows
 
-  pub flagging-init : {n : ℕ} → Accepted schema → Bytes schema → AtMost 64 (length g) n → Flagging schema p rows first second (replicate 64 0) n
-  flagging-init c sb l =
+  pub flagging_init : {n : ℕ} → Accepted schema → Bytes schema → AtMost 64 (length g) n → Flagging schema p rows first second (replicate 64 0) n
+  flagging_init c sb l =
       let A = sound schema sb c.some in
       record {
         sound = A;
@@ -68,11 +69,11 @@ module _ (schema p rows first second : List ℕ) where
       }
 
   module _ (flags : List ℕ) (n : ℕ) (w : Flagging schema p rows first second flags n) where
-    pub flagging-node : (table : List ℕ) → 0 < n → Tabled schema table → NodeIn schema table (n - 1)
-    flagging-node table h e = record { table = e; below = let z = w.below in omega arith }
+    pub flagging_node : (table : List ℕ) → 0 < n → Tabled schema table → NodeIn schema table (n - 1)
+    flagging_node table h e = record { table = e; below = let z = w.below in omega arith }
 
-    pub flagging-small : 0 < n → n - 1 < 64
-    flagging-small h = let z = w.below in let y = w.sound.few in omega arith
+    pub flagging_small : 0 < n → n - 1 < 64
+    flagging_small h = let z = w.below in let y = w.sound.few in omega arith
 
     module _ (h : 0 < n) {r : Bool} (e : r ≡ good_at g (better g ps) (in_set flags) (n - 1) (get_or first (n - 1) 0) (get_or second (n - 1) 0)) where
       here : (i j : List Entry) → Of g first second i j → Reached g i (n - 1) → r ≡ good g (better g ps) i j (n - 1)
@@ -80,17 +81,17 @@ module _ (schema p rows first second : List ℕ) where
       here i j o v =
           e
           ∙ ap₂ (good_at g (better g ps) (in_set flags) (n - 1))
-          (ap (λ (l : List ℕ). get_or l (n - 1) 0) o.first-chosen ∙ choice-is i o.first-is.ascending (n - 1) (flagging-small h))
-          (ap (λ (l : List ℕ). get_or l (n - 1) 0) o.second-chosen ∙ choice-is j o.second_is.ascending (n - 1) (flagging-small h))
+          (ap (λ (l : List ℕ). get_or l (n - 1) 0) o.first-chosen ∙ choice-is i o.first-is.ascending (n - 1) (flagging_small h))
+          (ap (λ (l : List ℕ). get_or l (n - 1) 0) o.second-chosen ∙ choice-is j o.second_is.ascending (n - 1) (flagging_small h))
           ∙ good-by-table g (better g ps) w.sound i j o.first-is (in_set flags) (n - 1) v (λ m k u. w.right i j o m (omega arith) u)
 
-      module _ {f : ℕ} (k : f ≡ cond r 1 0) where
+      module _ {f : ℕ} (k : f ≡ bool_byte r) where
         at-node : in_set (set flags (n - 1) f) (n - 1) ≡ r
         at-node =
-            ap (λ (z : ℕ). eqb z 1) (get_or-set_same flags (n - 1) f 0 (let z = w.long in let y = flagging-small h in omega arith) ∙ k)
+            ap (λ (z : ℕ). eqb z 1) (get_or-set_same flags (n - 1) f 0 (let z = w.long in let y = flagging_small h in omega arith) ∙ k)
             ∙ go r
           where
-            go : (b : Bool) → eqb (cond b 1 0) 1 ≡ b
+            go : (b : Bool) → eqb (bool_byte b) 1 ≡ b
             go true = refl
             go false = refl
 
@@ -106,8 +107,8 @@ module _ (schema p rows first second : List ℕ) where
                 let z : n - 1 ≡ m = omega arith in
                 subst (λ (q : ℕ). in_set (set flags (n - 1) f) q ≡ good g (better g ps) i j q) z (at-node ∙ here i j o (subst (Reached g i) (sym z) v))
 
-        pub flagging-step : Flagging schema p rows first second (set flags (n - 1) f) (n - 1)
-        flagging-step =
+        pub flagging_step : Flagging schema p rows first second (set flags (n - 1) f) (n - 1)
+        flagging_step =
             record {
               sound = w.sound;
               below = let z = w.below in omega arith;
@@ -115,12 +116,12 @@ module _ (schema p rows first second : List ℕ) where
               right = right-now;
             }
 
-    pub flagging-long : length flags ≡ 64
-    flagging-long = w.long
+    pub flagging_long : length flags ≡ 64
+    flagging_long = w.long
 
-    pub flagging-exit : n ≤ 0 → YieldsAsGood g ps first second (eqb (get_or flags 0 0) 1)
+    pub flagging_exit : n ≤ 0 → YieldsAsGood g ps first second (eqb (get_or flags 0 0) 1)
     unfolding as_good
-    flagging-exit h =
+    flagging_exit h =
         record {
           is = λ i j a b c d. w.right i j (record { first-is = instance-is i a; second_is = instance-is j b; first-chosen = c; second-chosen = d }) 0 h root;
         }

@@ -18,29 +18,29 @@ use Rattle.order.specs.Order.{in_set}
 use Rattle.model.proofs.Ranks.{better-strict}
 
 -- a number above all nodes is in no set of them
-pub none-beyond : (flags : List ℕ) (s : ℕ) → length flags ≡ 64 → 64 ≤ s → false ≡ in_set flags s
-none-beyond flags s l h = sym (ap (λ (x : ℕ). eqb x 1) (get_or-eq_default flags 0 {n = s} (omega arith)))
+pub none_beyond : (flags : List ℕ) (s : ℕ) → length flags ≡ 64 → 64 ≤ s → false ≡ in_set flags s
+none_beyond flags s l h = sym (ap (λ (x : ℕ). eqb x 1) (get_or-eq_default flags 0 {n = s} (omega arith)))
 
 -- ---- the choices, and the node
 
 module _ (g : List Node) (ps : List Policy) (h : ℕ → Bool) (n x y : ℕ) where
-  pub choice-same : {r : Bool} → x ≡ y → r ≡ h x → r ≡ good_choice (better g ps) h n x y
+  pub choice_same : {r : Bool} → x ≡ y → r ≡ h x → r ≡ good_choice (better g ps) h n x y
   unfolding good_choice
-  choice-same e q = rw (← e) (rw (is-not (better g ps n x x) ((better-strict g ps n).irreflexive x), eq-eqb x x refl) q)
+  choice_same e q = rw (← e) (rw (is-not (better g ps n x x) ((better-strict g ps n).irreflexive x), eq-eqb x x refl) q)
 
-  pub choice-other : {r : Bool} → (x ≡ y → ⊥) → r ≡ better g ps n x y → r ≡ good_choice (better g ps) h n x y
+  pub choice_other : {r : Bool} → (x ≡ y → ⊥) → r ≡ better g ps n x y → r ≡ good_choice (better g ps) h n x y
   unfolding good_choice
-  choice-other e q = rw (ne_eqb x y e) (q ∙ go (better g ps n x y))
+  choice_other e q = rw (ne_eqb x y e) (q ∙ go (better g ps n x y))
     where
       go : (b : Bool) → b ≡ (b || false)
       go true = refl
       go false = refl
 
 module _ (g : List Node) (better : ℕ → ℕ → ℕ → Bool) (h : ℕ → Bool) (n x y : ℕ) {c r : Bool} (e : c ≡ chooses (node_at g n)) where
-  pub node-chooses : {u v : ℕ} → c ≡ true → u ≡ x → v ≡ y → r ≡ good_choice better h n u v → r ≡ good_at g better h n x y
+  pub node_chooses : {u v : ℕ} → c ≡ true → u ≡ x → v ≡ y → r ≡ good_choice better h n u v → r ≡ good_at g better h n x y
   unfolding good_at
-  node-chooses t i j q = rw (sym e ∙ t, ← i, ← j) q
+  node_chooses t i j q = rw (sym e ∙ t, ← i, ← j) q
 
-  pub node-rests : c ≡ false → r ≡ every h (node_at g n).successors → r ≡ good_at g better h n x y
+  pub node_rests : c ≡ false → r ≡ every h (node_at g n).successors → r ≡ good_at g better h n x y
   unfolding good_at
-  node-rests t q = rw (sym e ∙ t) q
+  node_rests t q = rw (sym e ∙ t) q

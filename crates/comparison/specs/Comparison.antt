@@ -2,12 +2,21 @@
 -- For the contracts of functions that no other crate calls.
 use Rattle.std.specs.Prelude.{ℕ, ◌≡◌, Bool, List}
 use Rattle.schema.specs.Schema.{Node}
+use Rattle.comparison.specs.declared.Verdict.{Verdict}
+use Rattle.comparison.specs.declared.Verdict.TheVariants.{Alike, FirstBetter, SecondBetter, Neither}
 use Rattle.policies.specs.Policies.{Policy}
 use Rattle.instances.specs.Instance.{Entry}
 use Rattle.instances.specs.File.{ReadsBack}
 use Rattle.instance_reader.specs.Decoded.{choices_of}
 use Rattle.model.specs.Order.{as_good}
 use Rattle.model.specs.Comparing.{compared}
+
+-- 01's value of each verdict: '0 alike, 1 first better, 2 second better, 3 neither'
+abbrev pub verdict_number : Verdict → ℕ
+verdict_number Alike = 0
+verdict_number FirstBetter = 1
+verdict_number SecondBetter = 2
+verdict_number Neither = 3
 
 -- whether the first of two instances with these choices is at least as good as the second
 pub record YieldsAsGood (g : List Node) (ps : List Policy) (first second : List ℕ) (r : Bool) : Type 0 where

@@ -1,8 +1,8 @@
 // The comparison of two instances: nodes from the highest to 0, each once.
 #![tactic(auto)]
 
-ghost use Rattle.std.specs.Prelude.{◌≡◌, cond, length, get_or};
-ghost use Rattle.fields.specs.Answers.{refusal};
+ghost use Rattle.std.specs.Prelude.{◌≡◌, length, get_or};
+ghost use Rattle.fields.specs.Answers.{answer_of, refusal};
 ghost use Rattle.schema.specs.Schema.{most_nodes, schema_of};
 ghost use Rattle.schema.specs.Table.{Tabled, Accepted, NodeIn, Room};
 ghost use Rattle.policies.specs.Rows.{RowsRoom, noted, Noted};
@@ -11,17 +11,25 @@ ghost use Rattle.model.specs.Comparing.{verdict};
 ghost use Rattle.order.specs.Order.{in_set};
 ghost use Rattle.calls.specs.Inputs.{with_in_force};
 ghost use Rattle.calls.specs.Calls.{comparing_in_force, comparing};
-ghost use Rattle.comparison.specs.Comparison.{YieldsAsGood, YieldsVerdict};
+ghost use Rattle.comparison.specs.Comparison.{verdict_number, YieldsAsGood, YieldsVerdict};
 
-use fields::{Answer, Step};
-use inputs::Inputs;
-use instance_reader::InstanceRead;
+use fields::{File, Refusal};
 use nodes::{FEW_NODES, FEW_TABLE_SLOTS, TABLE_SLOTS};
 use policies::ROW_SLOTS;
 use ranks::RankOrder;
 use schema::{MOST_NODES, MOST_VARIABLES};
 
+// How two instances compare; `as usize` gives 01's value.
+#[derive(Clone, Copy, PartialEq, Eq, Debug)]
+pub enum Verdict {
+    Alike = 0,
+    FirstBetter = 1,
+    SecondBetter = 2,
+    Neither = 3,
+}
+
 // Whether x is better than y at node n.
+#[tactic(auto, using(crate::proofs::Better::ranks_before, crate::proofs::Better::ranks_after))]
 fn is_better(
     schema: &[u8],
     table: &[u16],
@@ -45,6 +53,7 @@ fn is_better(
 }
 
 // Whether node s is flagged; a number above all nodes is not.
+#[tactic(auto, using(crate::proofs::Good::none_beyond))]
 fn is_flagged(flags: &[u8; MOST_NODES], s: usize) -> bool
     requires { length flags.now ≡ most_nodes }
     ensures { result ≡ in_set flags.now s }
@@ -56,6 +65,7 @@ fn is_flagged(flags: &[u8; MOST_NODES], s: usize) -> bool
 }
 
 // Whether choice x is at least as good as y at node n, which chooses.
+#[tactic(auto, using(crate::proofs::Good::choice_same))]
 fn is_good_choice(
     schema: &[u8],
     table: &[u16],
@@ -78,6 +88,7 @@ fn is_good_choice(
 }
 
 // Whether the first instance is at least as good as the second at node n, by the flags of the nodes above it.
+#[tactic(auto, using(crate::proofs::Good::node_chooses, crate::proofs::Good::node_rests))]
 fn is_good(
     schema: &[u8],
     table: &[u16],
@@ -94,23 +105,15 @@ fn is_good(
     ensures { result ≡ good_at (schema_of schema.now) (better (schema_of schema.now) (noted (schema_of schema.now) p.now rows.now)) (in_set flags.now) n (get_or first.now n 0) (get_or second.now n 0) }
 {
     if instances::chooses(schema, table, n) {
-        let x = fields::wide(first[n]);
-        let y = fields::wide(second[n]);
+        let x = first[n] as usize;
+        let y = second[n] as usize;
         return is_good_choice(schema, table, p, rows, n, x, y, flags);
     }
     order::all_in(schema, table, n, flags)
 }
 
-fn flag(yes: bool) -> u8
-    ensures { result ≡ cond yes 1 0 }
-{
-    if yes {
-        return 1;
-    }
-    0
-}
-
 // Whether the first instance is at least as good as the second, by their choices.
+#[tactic(auto, using(crate::proofs::Flagging::flagging_node, crate::proofs::Flagging::flagging_small, crate::proofs::Flagging::flagging_long))]
 fn as_good(
     schema: &[u8],
     table: &[u16],
@@ -125,43 +128,38 @@ fn as_good(
     ensures { YieldsAsGood (schema_of schema.now) (noted (schema_of schema.now) p.now rows.now) first.now second.now result }
 {
     let mut flags = [0u8; MOST_NODES];
-    let mut n = nodes::count_of(schema);
-    while 0 < n {
-        n -= 1;
+    for n in (0..nodes::count_of(schema)).rev() {
         let good = is_good(schema, table, p, rows, n, first, second, &flags);
-        flags[n] = flag(good);
+        flags[n] = u8::from(good);
     }
     flags[0] == 1
 }
 
-fn verdict_of(first: bool, second: bool) -> usize
-    ensures { result ≡ verdict first second }
+fn verdict_of(first: bool, second: bool) -> Verdict
+    ensures { verdict_number result ≡ verdict first second }
 {
-    if first {
-        if second {
-            return 0;
-        }
-        return 1;
+    match (first, second) {
+        (true, true) => Verdict::Alike,
+        (true, false) => Verdict::FirstBetter,
+        (false, true) => Verdict::SecondBetter,
+        (false, false) => Verdict::Neither,
     }
-    if second {
-        return 2;
-    }
-    3
 }
 
 // The verdict on two instances, by their choices.
-fn verdict(
+#[tactic(auto, using(crate::proofs::Call::verdict_by))]
+fn compare_choices(
     schema: &[u8],
     table: &[u16],
     p: &[u8],
     rows: &[u16],
     first: &[u8; MOST_NODES],
     second: &[u8; MOST_NODES],
-) -> usize
+) -> Verdict
     requires accepted { Accepted schema.now }
     requires tabled { Tabled schema.now table.now }
     requires noted { Noted schema.now p.now rows.now }
-    ensures { YieldsVerdict (schema_of schema.now) (noted (schema_of schema.now) p.now rows.now) first.now second.now result }
+    ensures { YieldsVerdict (schema_of schema.now) (noted (schema_of schema.now) p.now rows.now) first.now second.now (verdict_number result) }
 {
     let onward = as_good(schema, table, p, rows, first, second);
     let back = as_good(schema, table, p, rows, second, first);
@@ -170,30 +168,34 @@ fn verdict(
 
 // The instances, files 4 and 5, once schema, policies and pass are accepted: the rows note the policies in force. The bits of
 // the values, which the reader fills, do not enter the order.
-fn in_force(schema: &[u8], table: &[u16], p: &[u8], rows: &[u16], s: &[u8], t: &[u8]) -> Answer
+#[tactic(auto, using(instances::proofs::Slots::bits_64, crate::proofs::Call::first_bad))]
+fn in_force(
+    schema: &[u8],
+    table: &[u16],
+    p: &[u8],
+    rows: &[u16],
+    s: &[u8],
+    t: &[u8],
+) -> Result<Verdict, Refusal>
     requires accepted { Accepted schema.now }
     requires tabled { Tabled schema.now table.now }
     requires noted { Noted schema.now p.now rows.now }
-    ensures { result ≡ comparing_in_force (schema_of schema.now) (noted (schema_of schema.now) p.now rows.now) s.now t.now }
+    ensures { answer_of verdict_number result ≡ comparing_in_force (schema_of schema.now) (noted (schema_of schema.now) p.now rows.now) s.now t.now }
 {
     let mut first = [255u8; MOST_NODES];
     let mut second = [255u8; MOST_NODES];
     let mut bits = [0u32; MOST_VARIABLES * MOST_NODES];
-    match instance_reader::read_instance(schema, table, s, &mut first, &mut bits) {
-        InstanceRead::NoInstance { number, offset } => fields::refusal(number, 4, offset),
-        InstanceRead::Instance { nodes: _ } => {
-            match instance_reader::read_instance(schema, table, t, &mut second, &mut bits) {
-                InstanceRead::NoInstance { number, offset } => fields::refusal(number, 5, offset),
-                InstanceRead::Instance { nodes: _ } => {
-                    let v = verdict(schema, table, p, rows, &first, &second);
-                    fields::success(v)
-                }
-            }
-        }
-    }
+    instance_reader::read_instance(schema, table, s, &mut first, &mut bits).map_err(
+        |breach| breach.of(File::Instance),
+    )?;
+    instance_reader::read_instance(schema, table, t, &mut second, &mut bits).map_err(
+        |breach| breach.of(File::SecondInstance),
+    )?;
+    Ok(compare_choices(schema, table, p, rows, &first, &second))
 }
 
 // Policies and pass, once the schema is accepted, with room for the rows.
+#[tactic(auto, using(inputs::proofs::Above::in_force_bad))]
 fn with_rows(
     schema: &[u8],
     table: &[u16],
@@ -203,23 +205,30 @@ fn with_rows(
     s: &[u8],
     t: &[u8],
     rows: &mut [u16],
-) -> Answer
+) -> Result<Verdict, Refusal>
     requires accepted { Accepted schema.now }
     requires tabled { Tabled schema.now table.now }
     requires rows_room { RowsRoom schema.now rows.old }
-    ensures { result ≡ with_in_force refusal (schema_of schema.now) p.now a b (λ ps. comparing_in_force (schema_of schema.now) ps s.now t.now) }
+    ensures { answer_of verdict_number result ≡ with_in_force refusal (schema_of schema.now) p.now a b (λ ps. comparing_in_force (schema_of schema.now) ps s.now t.now) }
 {
-    match inputs::read_in_force(schema, table, p, a, b, rows) {
-        Inputs::Refused { answer } => answer,
-        Inputs::Read => in_force(schema, table, p, rows, s, t),
-    }
+    inputs::read_in_force(schema, table, p, a, b, rows)?;
+    in_force(schema, table, p, rows, s, t)
 }
 
 // Policies and pass, once the schema is accepted; few nodes have few rows, which are sooner cleared.
-fn with_schema(schema: &[u8], table: &[u16], p: &[u8], a: u16, b: u16, s: &[u8], t: &[u8]) -> Answer
+#[tactic(auto, using(inputs::proofs::Above::rows_16, inputs::proofs::Above::rows_64))]
+fn with_schema(
+    schema: &[u8],
+    table: &[u16],
+    p: &[u8],
+    a: u16,
+    b: u16,
+    s: &[u8],
+    t: &[u8],
+) -> Result<Verdict, Refusal>
     requires accepted { Accepted schema.now }
     requires tabled { Tabled schema.now table.now }
-    ensures { result ≡ with_in_force refusal (schema_of schema.now) p.now a b (λ ps. comparing_in_force (schema_of schema.now) ps s.now t.now) }
+    ensures { answer_of verdict_number result ≡ with_in_force refusal (schema_of schema.now) p.now a b (λ ps. comparing_in_force (schema_of schema.now) ps s.now t.now) }
 {
     let count = nodes::count_of(schema);
     if count <= FEW_NODES {
@@ -231,6 +240,7 @@ fn with_schema(schema: &[u8], table: &[u16], p: &[u8], a: u16, b: u16, s: &[u8],
 }
 
 // The schema, with room for its tables, then the rest.
+#[tactic(auto, using(calls::proofs::Inputs::schema_bad), unfolding(calls::specs::Calls::comparing))]
 fn with_tables(
     schema: &[u8],
     p: &[u8],
@@ -240,18 +250,16 @@ fn with_tables(
     t: &[u8],
     table: &mut [u16],
     sets: &mut [u64],
-) -> Answer
+) -> Result<Verdict, Refusal>
     requires { Room schema.now table.old sets.old }
-    ensures { result ≡ comparing schema.now p.now a b s.now t.now }
+    ensures { answer_of verdict_number result ≡ comparing schema.now p.now a b s.now t.now }
 {
-    match schema::read_schema(schema, table, sets) {
-        Step::Bad { number, offset } => fields::refusal(number, 1, offset),
-        Step::Next { at: _ } => with_schema(schema, table, p, a, b, s, t),
-    }
+    schema::read_schema(schema, table, sets).map_err(|breach| breach.of(File::Schema))?;
+    with_schema(schema, table, p, a, b, s, t)
 }
 
-// The comparison: schema, policies, pass, first and second instance, then the verdict 0 alike, 1 first better,
-// 2 second better, 3 neither; few nodes have short tables, which are sooner cleared.
+// The comparison: schema, policies, pass, first and second instance, then the verdict; few nodes have short tables, which are sooner cleared.
+#[tactic(auto, using(schema::proofs::Fill::room_16, schema::proofs::Fill::room_64))]
 pub fn compare(
     schema: &[u8],
     policies: &[u8],
@@ -259,8 +267,8 @@ pub fn compare(
     b: u16,
     first: &[u8],
     second: &[u8],
-) -> Answer
-    ensures { result ≡ comparing schema.now policies.now a b first.now second.now }
+) -> Result<Verdict, Refusal>
+    ensures { answer_of verdict_number result ≡ comparing schema.now policies.now a b first.now second.now }
 {
     let count = schema::count_in(schema);
     if count <= FEW_NODES {

@@ -3,7 +3,8 @@
 use mathlib.Core.Path.{◌≡◌, refl, ap, sym, ◌∙◌}
 use mathlib.Core.Bool.{Bool, true, false}
 use mathlib.Core.List.{List, [], ◌∷◌, ◌++◌}
-use Prim.Native.Nat.{ℕ, zero, suc, ◌+◌, ◌/◌, ◌%◌, ◌^◌, ◌≤◌, ◌<◌}
+use Prim.Native.Nat.{ℕ, zero, suc, ◌+◌, ◌*◌, ◌/◌, ◌%◌, ◌^◌, ◌≤◌, ◌<◌, max}
+use Rattle.std.proofs.Math.Nat.{one-le-pow, max-eq_left}
 use native.Mathlib.Omega.{arith}
 use native.Mathlib.Nat.{pow-suc}
 use borrow.Author.Tests.{ltb-true, ltb-false}
@@ -90,14 +91,17 @@ short-value x h = decimal-short 9 x (omega arith)
 pub short-word : (x : ℕ) → x < 18446744073709551616 → length (decimal x) ≤ 20
 short-word x h = decimal-short 19 x (omega arith)
 
--- ---- the loop that counts them
+decimal-long : (k x : ℕ) → 10 ^ k ≤ x → suc k ≤ length (decimal x)
+decimal-long zero x h = decimal-some x
+decimal-long (suc k) x h =
+    let p = one-le-pow k 10 (omega arith) in
+    let s = pow-suc 10 k in
+    single x (λ e. absurd (omega arith)) (λ e. let z = decimal-long k (x / 10) (omega arith) in omega (arith, length_more x e))
 
-module _ (x rest count : ℕ) (e : count + length (decimal rest) ≡ length (decimal x) + 1) where
-  pub count_fits : x < 18446744073709551616 → count + 1 < 18446744073709551616
-  count_fits h = omega (arith, short-word x h)
+-- the power of ten that a number reaches tells how many; 0 has as many as 1
+counted : (k x : ℕ) → 10 ^ k ≤ x → x < 10 * 10 ^ k → k + 1 ≡ length (decimal x)
+counted k x h l = let a = decimal-long k x h in let b = decimal-short k x (omega (arith, pow-suc 10 k)) in omega arith
 
-  pub count-step : 10 ≤ rest → count + 1 + length (decimal (rest / 10)) ≡ length (decimal x) + 1
-  count-step h = omega (arith, length_more rest h)
-
-  pub count-exit : rest < 10 → count ≡ length (decimal x)
-  count-exit h = omega (arith, length-one rest h)
+pub digits_counted : (x k : ℕ) {y : ℕ} → y ≡ max x 1 → 10 ^ k ≤ y → y < 10 * 10 ^ k → k + 1 ≡ length (decimal x)
+digits_counted zero k e h l = let z : k + 1 ≡ length (decimal 1) = counted k 1 (omega arith) (omega arith) in omega (arith, length-one 1 (omega arith), length-one 0 (omega arith))
+digits_counted (suc x) k e h l = let z = max-eq_left {n = suc x} {m = 1} (omega arith) in counted k (suc x) (omega arith) (omega arith)

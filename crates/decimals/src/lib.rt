@@ -9,13 +9,7 @@ ghost use Rattle.decimals.specs.Decimal.{decimal};
 pub fn digit_count(x: u64) -> usize
     ensures { result ≡ length (decimal x) }
 {
-    let mut rest = x;
-    let mut count: usize = 1;
-    while 10 <= rest {
-        rest /= 10;
-        count += 1;
-    }
-    count
+    x.max(1).ilog10() as usize + 1
 }
 
 // A number in decimal that ends before an offset, its last digit first; gives the offset of its first digit.

@@ -4,7 +4,7 @@ use Prim.Native.Nat.{ℕ}
 use mathlib.Core.Path.{◌≡◌, ap, ◌∙◌}
 use mathlib.Core.List.{List}
 use Rattle.fields.specs.Outcomes.{Outcome, Did}
-use Rattle.fields.specs.declared.Answer.{Answer}
+use Rattle.fields.specs.Answers.{Answer}
 use Rattle.exports.specs.Exported.{exported}
 use Rattle.exports.specs.Call.{Called}
 use Rattle.exports.specs.declared.Exported.{Exported}

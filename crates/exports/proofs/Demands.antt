@@ -4,18 +4,18 @@ use Prim.Native.Nat.{ℕ}
 use mathlib.Core.Path.{◌≡◌, sym, ap, subst, ◌∙◌}
 use mathlib.Core.List.{List}
 use Rattle.fields.specs.Outcomes.{Outcome, Did}
-use Rattle.fields.specs.declared.Answer.{Answer}
+use Rattle.fields.specs.Answers.{Answer}
 use Rattle.fields.proofs.Bytes.{Bytes}
 use Rattle.calls.specs.Calls.{reconciling, checking, comparing, copying, sheeting}
 use Rattle.calls.proofs.ByCall.{Reconciles, reconciles, Checks, checks, Compares, compares, Copies, copies, Sheets, sheets}
-use Rattle.exports.specs.Exported.{exported, answer_of}
+use Rattle.exports.specs.Exported.{exported, answer_in}
 use Rattle.exports.specs.Call.{outcome_of}
 use Rattle.exports.specs.declared.Exported.{Exported}
 
 module _ {r : Answer} {e : Exported} (h : e ≡ exported r) where
   -- what is seen of an answer, and of an outcome
-  seen : (s : Answer) → r ≡ s → s ≡ answer_of e
-  seen s d = sym d ∙ ap answer_of (sym h)
+  seen : (s : Answer) → r ≡ s → s ≡ answer_in e
+  seen s d = sym d ∙ ap answer_in (sym h)
 
   seen-did : (o : Outcome) {after : List ℕ} → Did o r after → o ≡ outcome_of e after
   seen-did o d = λ i. record { answer = seen o.answer d.answer i; buffer = sym d.buffer i }
@@ -30,8 +30,8 @@ module _ {r : Answer} {e : Exported} (h : e ≡ exported r) where
   pub sheets-seen : (f s out : List ℕ) {after : List ℕ} → Did (sheeting f s out) r after → Bytes f → Bytes s → Sheets f s out (outcome_of e after)
   sheets-seen f s out d x y = subst (Sheets f s out) (seen-did (sheeting f s out) d) (sheets f s out x y)
 
-  pub checks-seen : (f p : List ℕ) (a b : ℕ) (s : List ℕ) → r ≡ checking f p a b s → Bytes f → Bytes s → Checks f p a b s (answer_of e)
+  pub checks-seen : (f p : List ℕ) (a b : ℕ) (s : List ℕ) → r ≡ checking f p a b s → Bytes f → Bytes s → Checks f p a b s (answer_in e)
   checks-seen f p a b s d x y = subst (Checks f p a b s) (seen (checking f p a b s) d) (checks f p a b s x y)
 
-  pub compares-seen : (f p : List ℕ) (a b : ℕ) (s t : List ℕ) → r ≡ comparing f p a b s t → Bytes f → Bytes s → Bytes t → Compares f p a b s t (answer_of e)
+  pub compares-seen : (f p : List ℕ) (a b : ℕ) (s t : List ℕ) → r ≡ comparing f p a b s t → Bytes f → Bytes s → Bytes t → Compares f p a b s t (answer_in e)
   compares-seen f p a b s t d x y z = subst (Compares f p a b s t) (seen (comparing f p a b s t) d) (compares f p a b s t x y z)

@@ -2,14 +2,17 @@
 // buffer are, and then what the demands, or 02/1, say of them; the last function tells the version.
 #![tactic(auto)]
 
-ghost use Rattle.std.specs.Prelude.{◌≡◌};
+ghost use Rattle.std.specs.Prelude.{◌≡◌, ℕ};
+ghost use Rattle.fields.specs.Answers.{answer_of};
 ghost use Rattle.calls.specs.Calls.{reconciling, checking, comparing, copying, sheeting};
 ghost use Rattle.calls.proofs.ByCall.{Reconciles, Checks, Compares, Copies, Sheets};
 ghost use Rattle.exports.specs.Call.{Called, outcome_of};
-ghost use Rattle.exports.specs.Exported.{exported, answer_of};
+ghost use Rattle.exports.specs.Exported.{exported, answer_in};
+ghost use Rattle.comparison.specs.Comparison.{verdict_number};
 ghost use Rattle.exports.specs.Version.{version};
 
-use fields::Answer;
+use comparison::Verdict;
+use fields::Refusal;
 
 // NEULENTA_VERSION_MAJOR, _MINOR and _PATCH of include/neulenta.h.
 const MAJOR: u32 = 1;
@@ -28,14 +31,59 @@ pub struct Exported {
     pub value: u64,
 }
 
-fn export(r: Answer) -> Exported
-    ensures { result ≡ exported r }
-{
-    Exported {
-        number: r.number as u32,
-        file: r.file as u32,
-        offset: r.offset as u64,
-        value: r.value as u64,
+// What a call adds to its answer, as the number that C has.
+pub trait Value {
+    ghost value: { Self → ℕ };
+
+    fn value(self) -> u64
+        ensures { result ≡ value self };
+}
+
+impl Value for usize {
+    ghost value = { λ n. n };
+
+    fn value(self) -> u64 {
+        self as u64
+    }
+}
+
+impl Value for () {
+    ghost value = { λ _. 0 };
+
+    fn value(self) -> u64 {
+        match self {
+            () => 0,
+        }
+    }
+}
+
+impl Value for Verdict {
+    ghost value = { verdict_number };
+
+    fn value(self) -> u64 {
+        u64::from(self as u8)
+    }
+}
+
+// What a call answers, as C has it.
+impl<V: Value> From<Result<V, Refusal>> for Exported {
+    ghost from_gives = { λ r e. e ≡ exported (answer_of V.value r) };
+
+    fn from(answer: Result<V, Refusal>) -> Exported {
+        match answer {
+            Ok(v) => Exported {
+                number: 0,
+                file: 0,
+                offset: 0,
+                value: v.value(),
+            },
+            Err(refusal) => Exported {
+                number: refusal.fault as u32,
+                file: refusal.file as u32,
+                offset: refusal.offset as u64,
+                value: 0,
+            },
+        }
     }
 }
 
@@ -44,7 +92,7 @@ pub extern "C" fn neulenta_copy(schema: &[u8], instance: &[u8], out: &mut [u8]) 
     ensures called { Called (copying schema.now instance.now out.old) result out.new }
     ensures copies { Copies schema.now instance.now out.old (outcome_of result out.new) }
 {
-    export(copying::copy(schema, instance, out))
+    copying::copy(schema, instance, out).into()
 }
 
 #[unsafe(no_mangle)]
@@ -52,7 +100,7 @@ pub extern "C" fn neulenta_sheet(schema: &[u8], instance: &[u8], out: &mut [u8])
     ensures called { Called (sheeting schema.now instance.now out.old) result out.new }
     ensures sheets { Sheets schema.now instance.now out.old (outcome_of result out.new) }
 {
-    export(sheet::sheet(schema, instance, out))
+    sheet::sheet(schema, instance, out).into()
 }
 
 #[unsafe(no_mangle)]
@@ -66,7 +114,7 @@ pub extern "C" fn neulenta_reconcile(
     ensures called { Called (reconciling schema.now policies.now a b out.old) result out.new }
     ensures reconciles { Reconciles schema.now policies.now a b out.old (outcome_of result out.new) }
 {
-    export(reconciler::reconcile(schema, policies, a, b, out))
+    reconciler::reconcile(schema, policies, a, b, out).into()
 }
 
 #[unsafe(no_mangle)]
@@ -78,9 +126,9 @@ pub extern "C" fn neulenta_check(
     instance: &[u8],
 ) -> Exported
     ensures value { result ≡ exported (checking schema.now policies.now a b instance.now) }
-    ensures checks { Checks schema.now policies.now a b instance.now (answer_of result) }
+    ensures checks { Checks schema.now policies.now a b instance.now (answer_in result) }
 {
-    export(checker::check(schema, policies, a, b, instance))
+    checker::check(schema, policies, a, b, instance).into()
 }
 
 #[unsafe(no_mangle)]
@@ -93,9 +141,9 @@ pub extern "C" fn neulenta_compare(
     second: &[u8],
 ) -> Exported
     ensures value { result ≡ exported (comparing schema.now policies.now a b first.now second.now) }
-    ensures compares { Compares schema.now policies.now a b first.now second.now (answer_of result) }
+    ensures compares { Compares schema.now policies.now a b first.now second.now (answer_in result) }
 {
-    export(comparison::compare(schema, policies, a, b, first, second))
+    comparison::compare(schema, policies, a, b, first, second).into()
 }
 
 // What the linked library is, for who compares it with the header: NEULENTA_VERSION there.

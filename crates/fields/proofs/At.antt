@@ -16,7 +16,7 @@ use mir.Syntax.{w32}
 use Rattle.fields.specs.Reading.{Got, got, part, be, field, mark, signed}
 use Rattle.fields.specs.Writing.{spell, put, unsigned}
 use Rattle.fields.proofs.Bytes.{Bytes, be-below, spell-length}
-use Rattle.fields.proofs.Reading.{whole-got}
+use Rattle.fields.proofs.Reading.{whole_got}
 use Rattle.fields.proofs.Signed.{signed-unsigned, unsigned_signed, unsigned-below}
 
 -- ---- the elements are bytes
@@ -161,7 +161,7 @@ pub field_at : {B : Type 0} (w n : ℕ) (rule : ℕ → Bool) (s : List ℕ) (p 
 unfolding field part
 field_at w n rule s p k x h a t e =
     let i : p + w ≤ length s = omega (arith, at-inside s p (spell w x) a, spell-length w x) in
-    rw (whole-got w s p i, spell-read w x s p h a, t) e
+    rw (whole_got w s p i, spell-read w x s p h a, t) e
 
 -- a mark is the number of its two letters
 pub mark-at : (m s : List ℕ) (p : ℕ) → spell 2 (be 2 m 0) ≡ m → At s p m → mark m s p ≡ got (be 2 m 0) (p + 2)

@@ -2,7 +2,7 @@
 -- Rests on the definitions of `be`, `spell` and `put`.
 use mathlib.Core.Path.{◌≡◌, refl, ap, sym, ◌∙◌}
 use mathlib.Core.List.{List, [], ◌∷◌, ◌++◌, append_assoc, append-nil}
-use Prim.Native.Nat.{ℕ, zero, suc, ◌+◌, ◌*◌, ◌/◌, ◌%◌, ◌^◌, ◌≤◌, ◌<◌}
+use Prim.Native.Nat.{ℕ, zero, suc, ◌+◌, ◌-◌, ◌*◌, ◌/◌, ◌%◌, ◌^◌, ◌≤◌, ◌<◌}
 use native.Mathlib.Omega.{arith}
 use native.Mathlib.Numerals.{add-one}
 use native.Mathlib.Nat.{add-zero, zero-add, pow-suc}
@@ -10,7 +10,9 @@ use lib.ListN.{length, get_or, set, take, drop, length-append, take-append-drop}
 use lib.Seq.{sets-eq, take_at, drop-append-add, drop-drop, length-take-le}
 use lib.Dec.{lit<}
 use lib.IntN.{ℤ}
-use mir.Syntax.{w8, w32}
+use mir.Syntax.{w8, w16, w32}
+use Rattle.std.specs.Int.{to_be_bytes}
+use borrow.Rule.Slice.PartMut.{put_mid}
 use mir.Val.{to_z, of_z, Fits, SFits}
 use mir.ValLaws.{to_z-of_z}
 use Rattle.fields.specs.Reading.{be}
@@ -122,3 +124,17 @@ be-below (suc w) s p h =
     let a = be-below w s p h in
     let b = (h (p + w)).fits in
     rw (pow-suc 256 w) (omega arith)
+
+-- a run copied into its part of the buffer
+put_part : (b ys : List ℕ) (at w : ℕ) → length ys ≡ w → put_mid at (at + w - at) b ys ≡ put b at ys
+unfolding put
+put_part b ys at w e =
+    let y : at + (at + w - at) ≡ at + length ys = omega (arith, e) in
+    rw (drop-drop (at + w - at) at b, y) (sym (append_assoc (take at b) ys (drop (at + length ys) b)))
+
+-- the bytes of a number, as the library has them
+pub put_part2 : {ys : List ℕ} (b : List ℕ) (at x : ℕ) → ys ≡ to_be_bytes w16 x → put_mid at (at + 2 - at) b ys ≡ put b at (spell 2 x)
+put_part2 {ys} b at x e = put_part b ys at 2 (ap (λ (l : List ℕ). length l) e) ∙ ap (put b at) (e ∙ sym (spell2 x))
+
+pub put_part4 : {ys : List ℕ} (b : List ℕ) (at x : ℕ) → ys ≡ to_be_bytes w32 x → put_mid at (at + 4 - at) b ys ≡ put b at (spell 4 x)
+put_part4 {ys} b at x e = put_part b ys at 4 (ap (λ (l : List ℕ). length l) e) ∙ ap (put b at) (e ∙ sym (spell4 x))

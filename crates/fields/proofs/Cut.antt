@@ -11,7 +11,7 @@ use lib.ListN.{length, get_or, take, length-append, get_or-append}
 use lib.Seq.{get_or-take, length-take-le}
 use Rattle.fields.specs.Reading.{Got, got, bad, part, be, whole, field, mark, many, ended}
 use Rattle.fields.proofs.Bytes.{be-same}
-use Rattle.fields.proofs.Reading.{whole-cut, whole-got, part-ok, ended-bad}
+use Rattle.fields.proofs.Reading.{whole_cut, whole_got, part-ok, ended-bad}
 use Rattle.fields.proofs.Back.{went, whole_back, ended-back}
 
 -- ---- the fields
@@ -167,8 +167,8 @@ module _ {s t : List ℕ} where
               end = next;
               inside = λ h. omega arith;
               closed = refl;
-              full = λ h. whole-got w t p (omega arith) ∙ (λ i. got (value (omega arith) i) (sym next i));
-              cut = λ h k. whole-cut w t p (omega arith) ∙ ap (bad 2) (rw (lt-ltb (length t) (p + w) (omega arith)));
+              full = λ h. whole_got w t p (omega arith) ∙ (λ i. got (value (omega arith) i) (sym next i));
+              cut = λ h k. whole_cut w t p (omega arith) ∙ ap (bad 2) (rw (lt-ltb (length t) (p + w) (omega arith)));
             },
           );
     }

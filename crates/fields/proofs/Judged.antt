@@ -1,15 +1,12 @@
 -- A reading that a call judges: what it comes to from the reader's answer, as an answer and as an outcome; and what holds of
 -- its refusals and of what follows it holds of the call. Rests on the definition of `judged`, by the two ways that a reading can end.
-use mathlib.Core.Path.{◌≡◌, refl, sym, subst, ◌∙◌}
+use mathlib.Core.Path.{◌≡◌, refl, sym, subst}
 use mathlib.Core.List.{List}
 use mathlib.Core.Bool.{true}
 use Prim.Native.Nat.{ℕ}
 use Rattle.fields.specs.Reading.{Got, got, bad}
-use Rattle.fields.specs.Answers.{step_of, refusal, judged}
+use Rattle.fields.specs.Answers.{Answer, end_of, refusal, judged}
 use Rattle.fields.specs.Outcomes.{Outcome, Did, leaving}
-use Rattle.fields.specs.declared.Answer.{Answer}
-use Rattle.fields.specs.declared.Step.{Step}
-use Rattle.fields.specs.declared.Step.TheVariants.{Bad}
 use Rattle.fields.proofs.Reading.{stopped}
 use Rattle.fields.proofs.Refusals.{of_file, Numbered}
 
@@ -29,13 +26,14 @@ refused_did out e h = did-same e (record { answer = h; buffer = refl })
 
 -- ---- a breach that the reader answered
 
-module _ {A : Type 0} (file : ℕ) (g : Got A) {f : Step} {n o : ℕ} (e : f ≡ step_of g) (h : f ≡ Bad n o) where
-  judged-stopped : {B : Type 0} (refuse : ℕ → ℕ → ℕ → B) (k : A → B) → judged refuse file g k ≡ refuse n file o
+module _ {A B : Type 0} (refuse : ℕ → ℕ → ℕ → B) (file : ℕ) (g : Got A) (k : A → B) where
+  pub judged_bad : {n o : ℕ} → g ≡ bad n o → judged refuse file g k ≡ refuse n file o
   unfolding judged
-  judged-stopped refuse k = rw (stopped g e h)
+  judged_bad e = rw e
 
-  pub judged-bad : (k : A → Answer) {r : Answer} → r ≡ refusal n file o → r ≡ judged refusal file g k
-  judged-bad k i = i ∙ sym (judged-stopped refusal k)
+  pub judged_ok : {a : A} {q : ℕ} → g ≡ got a q → judged refuse file g k ≡ k a
+  unfolding judged
+  judged_ok e = rw e
 
-  pub judged-bad-did : (out : List ℕ) (k : A → Outcome) {r : Answer} → r ≡ refusal n file o → Did (judged (leaving out) file g k) r out
-  judged-bad-did out k i = refused_did out (judged-stopped (leaving out) k) i
+  pub judged_end : {n o : ℕ} → bad n o ≡ end_of g → judged refuse file g k ≡ refuse n file o
+  judged_end e = judged_bad (stopped g e)

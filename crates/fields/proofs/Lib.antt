@@ -12,3 +12,4 @@ pub mod Judged
 pub mod Cut
 pub mod Runs
 pub mod Shorts
+pub mod Mapped

@@ -5,10 +5,10 @@ use mathlib.Core.List.{List, [], ◌∷◌}
 use Prim.Native.Nat.{ℕ, zero, suc, ◌-◌, ◌≤◌, ◌<◌}
 use native.Mathlib.Omega.{arith}
 use Rattle.fields.specs.Reading.{Got, got, bad, part, many}
-use Rattle.fields.specs.Answers.{step_of}
+use Rattle.std.specs.Prelude.{Result, Ok, Err}
+use Rattle.fields.specs.Answers.{number, as_end, end_of}
 use Rattle.fields.specs.Runs.{Run, did, refused, outcome, run_of}
-use Rattle.fields.specs.declared.Step.{Step}
-use Rattle.fields.specs.declared.Step.TheVariants.{Next, Bad}
+use Rattle.fields.specs.declared.Breach.{Breach}
 
 -- a run, back to what was read
 pub record Filled {T A : Type 0} (fill : A → T → T) (g : Got A) (t after : T) (q : ℕ) : Type 0 where
@@ -16,48 +16,42 @@ pub record Filled {T A : Type 0} (fill : A → T → T) (g : Got A) (t after : T
   pub read : g ≡ got value q
   pub is : after ≡ fill value t
 
-module _ {T A : Type 0} (fill : A → T → T) (g : Got A) (t after : T) {f : Step} (e : outcome f after ≡ run_of fill g t) where
-  pub ran : {q : ℕ} → f ≡ Next q → Filled fill g t after q
-  ran h = go g (sym (ap (λ (s : Step). outcome s after) h) ∙ e)
-    where
-      go : (g : Got A) {q : ℕ} → did q after ≡ run_of fill g t → Filled fill g t after q
-      go (got a p) e = record { value = a; read = cc; is = cc }
-      go (bad n o) e = absurd (let z : ◌≡◌ {A = ℕ} 0 1 = cc in omega arith)
+module _ {T A : Type 0} (fill : A → T → T) where
+  pub ran : (g : Got A) (t after : T) {q : ℕ} → did q after ≡ run_of fill g t → Filled fill g t after q
+  ran (got a p) t after e = record { value = a; read = cc; is = cc }
+  ran (bad n o) t after e = absurd (let z : ◌≡◌ {A = ℕ} 0 1 = cc in omega arith)
 
-  pub failed : {n o : ℕ} → f ≡ Bad n o → g ≡ bad n o
-  failed h = go g (sym (ap (λ (s : Step). outcome s after) h) ∙ e)
-    where
-      go : (g : Got A) {n o : ℕ} → refused n o ≡ run_of fill g t → g ≡ bad n o
-      go (got a p) e = cc
-      go (bad n o) e = cc
+  pub failed : (g : Got A) (t : T) {n o : ℕ} → refused n o ≡ run_of fill g t → g ≡ bad n o
+  failed (got a p) t e = cc
+  failed (bad n o) t e = cc
 
-pub run-answer : {T A : Type 0} (fill : A → T → T) (g : Got A) (t after : T) (r : Step) → outcome r after ≡ run_of fill g t → r ≡ step_of g
-run-answer fill (got a q) t after (Next p) e = let z : p ≡ q = cc in ap Next z
-run-answer fill (got a q) t after (Bad n o) e = absurd (let z : ◌≡◌ {A = ℕ} 0 1 = cc in omega arith)
-run-answer fill (bad m i) t after (Next p) e = absurd (let z : ◌≡◌ {A = ℕ} 0 1 = cc in omega arith)
-run-answer fill (bad m i) t after (Bad n o) e = let z : n ≡ m = cc in let w : o ≡ i = cc in rw (z, w)
+pub run_answer : {T A : Type 0} (fill : A → T → T) (g : Got A) (t after : T) (r : Result ℕ Breach) → outcome r after ≡ run_of fill g t → as_end r ≡ end_of g
+run_answer fill (got a q) t after (Ok p) e = let z : p ≡ q = cc in ap (got tt) z
+run_answer fill (got a q) t after (Err b) e = absurd (let z : ◌≡◌ {A = ℕ} 0 1 = cc in omega arith)
+run_answer fill (bad m i) t after (Ok p) e = absurd (let z : ◌≡◌ {A = ℕ} 0 1 = cc in omega arith)
+run_answer fill (bad m i) t after (Err b) e = let z : number b.fault ≡ m = cc in let w : b.offset ≡ i = cc in rw (z, w)
 
 -- what is made of what was read fills other tables likewise
-pub run-map : {A B T U : Type 0} (fill : A → T → T) (full : B → U → U) (make : A → B) (g : Got A) (t t₁ : T) (u u₁ : U) (r : Step) → outcome r t₁ ≡ run_of fill g t
-    → ((a : A) → t₁ ≡ fill a t → u₁ ≡ full (make a) u) → outcome r u₁ ≡ run_of full (part g (λ a q. got (make a) q)) u
+pub run_map : {A B T U : Type 0} (fill : A → T → T) (full : B → U → U) (make : A → B) (g : Got A) (t t₁ : T) (u u₁ : U) (r : Result ℕ Breach)
+    → outcome r t₁ ≡ run_of fill g t → ((a : A) → t₁ ≡ fill a t → u₁ ≡ full (make a) u) → outcome r u₁ ≡ run_of full (part g (λ a q. got (make a) q)) u
 unfolding part
-run-map fill full make (got a q) t t₁ u u₁ (Next p) e h = let z : t₁ ≡ fill a t = cc in let w : p ≡ q = cc in rw (w, h a z)
-run-map fill full make (got a q) t t₁ u u₁ (Bad n o) e h = absurd (let z : ◌≡◌ {A = ℕ} 0 1 = cc in omega arith)
-run-map fill full make (bad m i) t t₁ u u₁ (Next p) e h = absurd (let z : ◌≡◌ {A = ℕ} 0 1 = cc in omega arith)
-run-map fill full make (bad m i) t t₁ u u₁ (Bad n o) e h = let z : m ≡ n = cc in let w : i ≡ o = cc in rw (z, w)
+run_map fill full make (got a q) t t₁ u u₁ (Ok p) e h = let z : t₁ ≡ fill a t = cc in let w : p ≡ q = cc in rw (w, h a z)
+run_map fill full make (got a q) t t₁ u u₁ (Err b) e h = absurd (let z : ◌≡◌ {A = ℕ} 0 1 = cc in omega arith)
+run_map fill full make (bad m i) t t₁ u u₁ (Ok p) e h = absurd (let z : ◌≡◌ {A = ℕ} 0 1 = cc in omega arith)
+run_map fill full make (bad m i) t t₁ u u₁ (Err b) e h = let z : m ≡ number b.fault = cc in let w : i ≡ b.offset = cc in rw (z, w)
 
 -- the loop over `many`: what is left to read and to fill from here equals the whole
 module _ {S A T : Type 0} (step : S → ℕ → Got A) (next : S → A → S) (fill : List A → T → T) where
-  pub run-exit : (k : ℕ) (st : S) (p : ℕ) (t : T) {x : Run T} → run_of fill (many step next k st p) t ≡ x → k ≤ 0 → did p (fill [] t) ≡ x
+  pub run_exit : (k : ℕ) (st : S) (p : ℕ) (t : T) {x : Run T} → run_of fill (many step next k st p) t ≡ x → k ≤ 0 → did p (fill [] t) ≡ x
   unfolding many
-  run-exit zero st p t i h = i
-  run-exit (suc k) st p t i h = absurd (omega arith)
+  run_exit zero st p t i h = i
+  run_exit (suc k) st p t i h = absurd (omega arith)
 
-  pub run-refused : (k : ℕ) (st : S) (p : ℕ) (t : T) {x : Run T} {n o : ℕ} → run_of fill (many step next k st p) t ≡ x → 0 < k → step st p ≡ bad n o
+  pub run_refused : (k : ℕ) (st : S) (p : ℕ) (t : T) {x : Run T} {n o : ℕ} → run_of fill (many step next k st p) t ≡ x → 0 < k → step st p ≡ bad n o
       → refused n o ≡ x
   unfolding many part
-  run-refused zero st p t i h e = absurd (omega arith)
-  run-refused (suc k) st p t i h e = rw e at i
+  run_refused zero st p t i h e = absurd (omega arith)
+  run_refused (suc k) st p t i h e = rw e at i
 
   pub run_step : (rest : List A → T → T) (k : ℕ) (st : S) (p : ℕ) (t t₁ : T) {x : Run T} {a : A} {q : ℕ} → run_of fill (many step next k st p) t ≡ x → 0 < k
       → step st p ≡ got a q → ((xs : List A) → fill (a ∷ xs) t ≡ rest xs t₁) → run_of rest (many step next (k - 1) (next st a) q) t₁ ≡ x

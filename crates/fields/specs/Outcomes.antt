@@ -1,7 +1,6 @@
 -- What a call that lends a buffer does (01, 'Where a number arises', 'Reconciling').
 use Rattle.std.specs.Prelude.{ℕ, ◌≡◌, cond, List, ◌++◌, leb, length, drop}
-use Rattle.fields.specs.Answers.{success, refusal}
-use Rattle.fields.specs.declared.Answer.{Answer}
+use Rattle.fields.specs.Answers.{Answer, success, refusal}
 
 -- the answer, and the whole buffer at exit
 pub record Outcome : Type 0 where

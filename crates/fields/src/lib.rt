@@ -1,91 +1,177 @@
 // What readers and calls answer, and the numbers that bytes spell.
 #![tactic(auto)]
 
-ghost use Rattle.std.specs.Prelude.{◌≡◌, ◌+◌, ◌*◌, ◌≤◌, length};
+ghost use Rattle.std.specs.Prelude.{◌≡◌, ℕ, ◌+◌, ◌≤◌, ◌<◌, ◌^◌, length, refl};
 ghost use Rattle.fields.specs.Reading.{be, signed};
-ghost use Rattle.fields.specs.Writing.{unsigned};
-ghost use Rattle.fields.specs.Answers.{success, refusal};
+ghost use Rattle.fields.specs.declared.File.TheVariants.{NoFile};
+ghost use Rattle.fields.specs.Writing.{spell, unsigned, put};
 
-// A field's value and the position after it, or the number of its breach and its offset.
-#[derive(Clone, Copy)]
-pub enum Field {
-    Value { value: u32, next: usize },
-    Cut { number: u8, offset: usize },
+// Why a file, a pass or a buffer is refused: 01's numbers, each by its name.
+#[derive(Clone, Copy, PartialEq, Eq, Debug)]
+pub enum Fault {
+    Mark = 1,
+    Cut = 2,
+    NodeCount = 3,
+    Links = 4,
+    Successor = 5,
+    Variable = 6,
+    Remainder = 7,
+    PolicyCount = 8,
+    Days = 9,
+    Node = 10,
+    Mask = 11,
+    Pass = 12,
+    NoInstance = 13,
+    Buffer = 14,
+    Entry = 15,
+    Choice = 16,
+    Value = 17,
+    Forbidden = 18,
 }
 
-// The same of a signed field.
-#[derive(Clone, Copy)]
-pub enum SignedField {
-    Signed { value: i32, next: usize },
-    NoSigned { number: u8, offset: usize },
+// The file in which a fault arose, NoFile where it is of none.
+#[derive(Clone, Copy, PartialEq, Eq, Debug)]
+pub enum File {
+    NoFile = 0,
+    Schema = 1,
+    Policies = 2,
+    Pass = 3,
+    Instance = 4,
+    SecondInstance = 5,
 }
 
-// The position after what was read, or a breach: what a reader answers whose values nobody asks for.
-#[derive(Clone, Copy)]
-pub enum Step {
-    Next { at: usize },
-    Bad { number: u8, offset: usize },
-}
-
-// 01's answer; value is what a call adds, its length or its verdict. Number and file stand apart: side by side the compiler
-// copies them as one word, of which only two bytes were written, and that stalls.
-#[derive(Clone, Copy)]
-pub struct Answer {
-    pub number: u8,
+// A reader's refusal: the fault and the offset of its field.
+#[derive(Clone, Copy, PartialEq, Eq, Debug)]
+pub struct Breach {
+    pub fault: Fault,
     pub offset: usize,
-    pub file: u8,
-    pub value: usize,
 }
 
-// The answer of a call that succeeds.
-pub fn success(value: usize) -> Answer
-    ensures { result ≡ success value }
-{
-    Answer {
-        number: 0,
-        file: 0,
-        offset: 0,
-        value,
+// A call's refusal, with the file.
+#[derive(Clone, Copy, PartialEq, Eq, Debug)]
+pub struct Refusal {
+    pub fault: Fault,
+    pub file: File,
+    pub offset: usize,
+}
+
+impl Breach {
+    pub fn new(fault: Fault, offset: usize) -> Breach
+        ensures { result ≡ record { fault = fault; offset = offset } }
+    {
+        Breach { fault, offset }
+    }
+
+    // The refusal of a call that read this file.
+    pub fn of(self, file: File) -> Refusal
+        ensures { result ≡ record { fault = self.fault; file = file; offset = self.offset } }
+    {
+        Refusal {
+            fault: self.fault,
+            file,
+            offset: self.offset,
+        }
     }
 }
 
-// The answer of a call that refuses.
-pub fn refusal(number: u8, file: u8, offset: usize) -> Answer
-    ensures { result ≡ refusal number file offset }
-{
-    Answer {
-        number,
-        file,
-        offset,
-        value: 0,
+impl Refusal {
+    // The refusal of a call for a fault of no file.
+    pub fn new(fault: Fault) -> Refusal
+        ensures { result ≡ record { fault = fault; file = NoFile; offset = 0 } }
+    {
+        Refusal {
+            fault,
+            file: File::NoFile,
+            offset: 0,
+        }
     }
 }
 
-// A byte as a position or a count.
-pub fn wide(x: u8) -> usize
-    ensures { result ≡ x }
-{
-    x as usize
+// A number of so many bytes, high byte first; code is what the bytes spell.
+pub trait BigEndian: Copy {
+    ghost WIDTH: { ℕ };
+
+    ghost code: { Self → ℕ };
+
+    const WIDTH: usize;
+
+    // The number at an offset.
+    fn get(s: &[u8], at: usize) -> Self
+        requires { at + WIDTH ≤ length s.now }
+        ensures { code result ≡ be WIDTH s.now at };
+
+    // The number put at an offset.
+    fn put(self, b: &mut [u8], at: usize)
+        requires { at + WIDTH ≤ length b.old }
+        ensures { b.new ≡ put b.old at (spell WIDTH (code self)) };
 }
 
-fn join2(a: u8, b: u8) -> u32
-    ensures { result ≡ a * 256 + b }
-{
-    (a as u32) * 256 + (b as u32)
+#[tactic(auto, using(crate::proofs::Back::be1, crate::proofs::Bytes::put1))]
+impl BigEndian for u8 {
+    ghost WIDTH = { 1 };
+
+    ghost code = { λ x. x };
+
+    const WIDTH: usize = 1;
+
+    fn get(s: &[u8], at: usize) -> u8 {
+        s[at]
+    }
+
+    fn put(self, b: &mut [u8], at: usize) {
+        b[at] = self;
+    }
 }
 
-fn join4(a: u8, b: u8, c: u8, d: u8) -> u32
-    ensures { result ≡ ((a * 256 + b) * 256 + c) * 256 + d }
-{
-    (((a as u32) * 256 + (b as u32)) * 256 + (c as u32)) * 256 + (d as u32)
+#[tactic(auto, using(crate::proofs::Bytes::be2, crate::proofs::Bytes::put_part2))]
+impl BigEndian for u16 {
+    ghost WIDTH = { 2 };
+
+    ghost code = { λ x. x };
+
+    const WIDTH: usize = 2;
+
+    fn get(s: &[u8], at: usize) -> u16 {
+        u16::from_be_bytes([s[at], s[at + 1]])
+    }
+
+    fn put(self, b: &mut [u8], at: usize) {
+        b[at..at + 2].copy_from_slice(&self.to_be_bytes());
+    }
 }
 
-// The number that two bytes spell.
-pub fn u16_at(s: &[u8], at: usize) -> u32
-    requires { at + 2 ≤ length s.now }
-    ensures { result ≡ be 2 s.now at }
-{
-    join2(s[at], s[at + 1])
+#[tactic(auto, using(crate::proofs::Bytes::be4, crate::proofs::Bytes::put_part4))]
+impl BigEndian for u32 {
+    ghost WIDTH = { 4 };
+
+    ghost code = { λ x. x };
+
+    const WIDTH: usize = 4;
+
+    fn get(s: &[u8], at: usize) -> u32 {
+        u32::from_be_bytes([s[at], s[at + 1], s[at + 2], s[at + 3]])
+    }
+
+    fn put(self, b: &mut [u8], at: usize) {
+        b[at..at + 4].copy_from_slice(&self.to_be_bytes());
+    }
+}
+
+impl BigEndian for i32 {
+    ghost WIDTH = { 4 };
+
+    ghost code = { unsigned };
+
+    const WIDTH: usize = 4;
+
+    fn get(s: &[u8], at: usize) -> i32 {
+        let bits = <u32 as BigEndian>::get(s, at);
+        bits.cast_signed()
+    }
+
+    fn put(self, b: &mut [u8], at: usize) {
+        self.cast_unsigned().put(b, at);
+    }
 }
 
 // The number that four bytes spell.
@@ -93,29 +179,21 @@ pub fn u32_at(s: &[u8], at: usize) -> u32
     requires { at + 4 ≤ length s.now }
     ensures { result ≡ be 4 s.now at }
 {
-    join4(s[at], s[at + 1], s[at + 2], s[at + 3])
+    u32::get(s, at)
 }
 
 // 32 bits read as two's complement.
 pub fn to_signed(u: u32) -> i32
     ensures { result ≡ signed u }
 {
-    if u < 0x8000_0000 {
-        u as i32
-    } else {
-        -1 - ((0xffff_ffff - u) as i32)
-    }
+    u.cast_signed()
 }
 
 // The 32 bits of a signed number.
 pub fn to_unsigned(z: i32) -> u32
     ensures { result ≡ unsigned z }
 {
-    if z < 0 {
-        0xffff_ffff - ((-1 - z) as u32)
-    } else {
-        z as u32
-    }
+    z.cast_unsigned()
 }
 
 // The signed number that four bytes spell.

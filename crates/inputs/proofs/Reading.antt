@@ -1,13 +1,15 @@
 -- Each way that policies and pass can end.
 -- Rests on what the readers' contracts tell.
-use mathlib.Core.Path.{◌≡◌, ap}
+use mathlib.Core.Path.{◌≡◌}
 use mathlib.Core.List.{List}
 use Prim.Native.Nat.{ℕ}
 use lib.ListN.{length}
-use Rattle.fields.specs.declared.Answer.{Answer}
-use Rattle.fields.specs.Answers.{step_of, refusal, judged}
-use Rattle.fields.specs.declared.Step.{Step}
-use Rattle.fields.specs.declared.Step.TheVariants.{Next, Bad}
+use Rattle.std.specs.Prelude.{Result, Ok, Err}
+use Rattle.fields.specs.Reading.{got, bad}
+use Rattle.fields.specs.Answers.{number, end_of, judged}
+use Rattle.fields.specs.declared.Breach.{Breach}
+use Rattle.fields.specs.declared.Refusal.{Refusal}
+use Rattle.fields.specs.declared.File.TheVariants.{Policies as PoliciesFile, Pass as PassFile}
 use Rattle.fields.proofs.Reading.{stepped, stopped}
 use Rattle.schema.specs.Schema.{most_nodes, schema_of}
 use Rattle.schema.specs.Table.{Tabled, AtMost, SchemaIn}
@@ -16,32 +18,21 @@ use Rattle.policies.specs.Pass.{pass}
 use Rattle.policy_reader.specs.Answers.{YieldsPolicies}
 use Rattle.calls.specs.Inputs.{with_policies, with_pass, with_in_force}
 use Rattle.inputs.specs.Inputs.{YieldsInForce}
-use Rattle.inputs.specs.declared.Inputs.TheVariants.{Read, Refused}
 
 -- the table, with the count of its nodes
-pub schema-in : (s t : List ℕ) {count : ℕ} → Tabled s t → AtMost most_nodes (length (schema_of s)) count → SchemaIn s t count
-schema-in s t T m = record { table = T; counted = m.is }
+pub schema_in : (s t : List ℕ) {count : ℕ} → Tabled s t → AtMost most_nodes (length (schema_of s)) count → SchemaIn s t count
+schema_in s t T m = record { table = T; counted = m.is }
 
-module _ (s p : List ℕ) (a b : ℕ) (t : List ℕ) {f : Step} (w : YieldsPolicies s p a b f t) where
-  pub policies-bad : {n o : ℕ} {r : Answer} → f ≡ Bad n o → r ≡ refusal n 2 o → YieldsInForce s p a b t (Refused r)
+module _ (s p : List ℕ) (a b : ℕ) (t : List ℕ) where
+  pub policies_bad : {x : Breach} {r : Result Unit Refusal} → YieldsPolicies s p a b (Err x) t → r ≡ Err (record { fault = x.fault; file = PoliciesFile; offset = x.offset }) → YieldsInForce s p a b t r
   unfolding with_in_force with_policies judged
-  policies-bad h k = record { answer = rw (stopped (policies (schema_of s) p) w.answer h) (ap Refused k); rows = w.rows; long = w.long }
+  policies_bad w h = record { answer = rw (h, stopped (policies (schema_of s) p) w.answer); rows = w.rows; long = w.long }
 
-  module _ {q : ℕ} (h : f ≡ Next q) {x : Step} (e : x ≡ step_of (pass a b)) where
-    pub pass-bad : {n o : ℕ} {r : Answer} → x ≡ Bad n o → r ≡ refusal n 3 o → YieldsInForce s p a b t (Refused r)
+  module _ {q : ℕ} (w : YieldsPolicies s p a b (Ok q) t) where
+    pub pass_bad : {x : Breach} {r : Result Unit Refusal} → bad (number x.fault) x.offset ≡ end_of (pass a b) → r ≡ Err (record { fault = x.fault; file = PassFile; offset = x.offset }) → YieldsInForce s p a b t r
     unfolding with_in_force with_policies with_pass judged
-    pass-bad i k =
-        record {
-          answer = rw ((stepped (policies (schema_of s) p) w.answer h).1, stopped (pass a b) e i) (ap Refused k);
-          rows = w.rows;
-          long = w.long;
-        }
+    pass_bad e h = record { answer = rw (h, (stepped (policies (schema_of s) p) w.answer).1, stopped (pass a b) e); rows = w.rows; long = w.long }
 
-    pub pass-ok : {d : ℕ} → x ≡ Next d → YieldsInForce s p a b t Read
+    pub pass_ok : {r : Result Unit Refusal} {v : Unit {0}} → got tt 0 ≡ end_of (pass a b) → r ≡ Ok v → YieldsInForce s p a b t r
     unfolding with_in_force with_policies with_pass judged
-    pass-ok i =
-        record {
-          answer = rw ((stepped (policies (schema_of s) p) w.answer h).1, (stepped (pass a b) e i).1);
-          rows = w.rows;
-          long = w.long;
-        }
+    pass_ok e h = record { answer = rw (h, (stepped (policies (schema_of s) p) w.answer).1, (stepped (pass a b) e).1); rows = w.rows; long = w.long }

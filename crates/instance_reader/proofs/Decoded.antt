@@ -12,17 +12,15 @@ use lib.Dec.{eqb}
 use lib.IntN.{ℤ, pos, negsuc}
 use lib.ListN.{length, get_or, set, replicate, length-set, length-replicate, get_or-replicate}
 use lib.Seq.{get_or-set_same, get_or-set_other}
+use Rattle.std.specs.Prelude.{Result, Ok, Err}
 use Rattle.fields.specs.Reading.{Got, got, bad, part, whole, mark}
-use Rattle.fields.specs.Answers.{field_of, step_of, refusal, judged}
+use Rattle.fields.specs.Answers.{Answer, number, end_of, refusal, judged}
 use Rattle.fields.specs.Outcomes.{Outcome, Did, leaving}
-use Rattle.fields.specs.Runs.{Run, did, refused, run_of}
-use Rattle.fields.specs.declared.Answer.{Answer}
-use Rattle.fields.specs.declared.Field.{Field}
-use Rattle.fields.specs.declared.Field.TheVariants.{Value, Cut}
-use Rattle.fields.specs.declared.Step.{Step}
-use Rattle.fields.specs.declared.Step.TheVariants.{Next, Bad}
-use Rattle.fields.proofs.Reading.{took, cut, stepped, stopped, ended-bad, ended-ok}
-use Rattle.fields.proofs.Judged.{judged-bad-did}
+use Rattle.fields.specs.Runs.{did, refused, run_of}
+use Rattle.fields.specs.declared.Breach.{Breach}
+use Rattle.fields.proofs.Reading.{stepped, stopped, ended-bad, ended-ok}
+use Rattle.fields.proofs.Runs.{Filled, ran, failed}
+use Rattle.fields.proofs.Judged.{judged_bad, refused_did}
 use Rattle.fields.proofs.Signed.{signed-unsigned}
 use Rattle.fields.proofs.Tests.{and-true, or-true, or_left, or_right, never}
 use Rattle.fields.proofs.Bytes.{Bytes}
@@ -41,12 +39,8 @@ use Rattle.instances.proofs.IsInstance.{in_domains, RightEntry, Ascending, IsIns
 use Rattle.instances.proofs.Valid.{Follows, none_left, and_then, none-at, has-mem, Reaches, due-reached, reached-due, lowest-due, lowest-least, due-cases, reaches-in, few-variables, sound-variables, is-follows}
 use Rattle.instances.proofs.Trip.{between}
 use Rattle.instances.proofs.RoundTrip.{read-encode, read-end, read_is, node-below}
-use Rattle.instance_reader.specs.Decoded.{bits_of, fill_choices, choices_of, instance_read, YieldsInstance}
-use Rattle.instance_reader.specs.Reader.{fill_values, fill_bits, Tables, fill_entry, fill_entries, entries_outcome, emptied}
-use Rattle.instance_reader.specs.declared.EntriesRead.{EntriesRead}
-use Rattle.instance_reader.specs.declared.EntriesRead.TheVariants.{All, NotAll}
-use Rattle.instance_reader.specs.declared.InstanceRead.{InstanceRead}
-use Rattle.instance_reader.specs.declared.InstanceRead.TheVariants.{Instance, NoInstance}
+use Rattle.instance_reader.specs.Decoded.{bits_of, fill_choices, choices_of, as_nodes, nodes_in, YieldsInstance}
+use Rattle.instance_reader.specs.Reader.{fill_values, fill_bits, Tables, fill_entry, fill_entries, emptied}
 use Rattle.instance_reader.proofs.Reader.{bits-length}
 
 -- ---- choices
@@ -297,10 +291,10 @@ module _ (f s : List ℕ) (a : Accepted f) (fb : Bytes f) (sb : Bytes s) (bits :
   plan-is : planned g (plan_of g after.choices after.bits) ≡ i
   plan-is = planned-follows g sd (plan_of g after.choices after.bits) (is-follows g sd i is) entry-is
 
-  pub yields : YieldsInstance g s after.choices after.bits (Instance after.nodes)
+  pub yields : YieldsInstance g s after.choices after.bits (Ok after.nodes)
   yields =
       record {
-        answer = rw e (ap Instance nodes-are);
+        answer = rw e (ap (λ (m : ℕ). got m 0) nodes-are);
         back = λ j p h. subst (ReadsBack g) (same j p h) written;
         holds = λ j p h. plan-is ∙ same j p h;
         chosen = λ j p h. choices-are ∙ ap choices_of (same j p h);
@@ -314,76 +308,58 @@ module _ (f s : List ℕ) (a : Accepted f) (fb : Bytes f) (sb : Bytes s) (bits :
 
 -- ---- the reader's returns
 
-pub emptied-long : (choices : List ℕ) → choices ≡ replicate 64 255 → length choices ≡ 64
-emptied-long choices e = ap length e ∙ length-replicate {A = ℕ} 64 255
+pub emptied_long : (choices : List ℕ) → choices ≡ replicate 64 255 → length choices ≡ 64
+emptied_long choices e = ap length e ∙ length-replicate {A = ℕ} 64 255
 
-pub yields_none : (g : List Node) (s choices bits : List ℕ) {n o : ℕ} → instance g s ≡ bad n o → YieldsInstance g s choices bits (NoInstance n o)
-yields_none g s choices bits e =
+pub yields_none : (g : List Node) (s choices bits : List ℕ) {r : Result ℕ Breach} {n o : ℕ} → as_nodes r ≡ bad n o → bad n o ≡ instance g s
+    → YieldsInstance g s choices bits r
+yields_none g s choices bits {n = n} {o} h e =
     record {
-      answer = rw e;
-      back = λ i q h. absurd (let z : ◌≡◌ {A = ℕ} 0 1 = cc in omega arith);
-      holds = λ i q h. absurd (let z : ◌≡◌ {A = ℕ} 0 1 = cc in omega arith);
-      chosen = λ i q h. absurd (let z : ◌≡◌ {A = ℕ} 0 1 = cc in omega arith);
+      answer = rw (← e) h;
+      back = λ i q k. never-got e k;
+      holds = λ i q k. never-got e k;
+      chosen = λ i q k. never-got e k;
     }
+  where
+    never-got : {P : Type 0} {x : Got (List Entry)} {i : List Entry} {q : ℕ} → bad n o ≡ x → x ≡ got i q → P
+    never-got e k = absurd (let z : ◌≡◌ {A = ℕ} 0 1 = cc in omega arith)
 
--- what was read and filled, back from an outcome
-record Filled (g : List Node) (r : Got (List Entry)) (q m : ℕ) (t : Tables) (choices bits : List ℕ) : Type 0 where
-  i : List Entry
-  read : r ≡ got i q
-  after : ◌≡◌ {A = Tables} (record { nodes = m; choices = choices; bits = bits }) (fill_entries g i t)
-
-module _ (g : List Node) (t : Tables) (choices bits : List ℕ) {f : EntriesRead} where
-  filled : (r : Got (List Entry)) {m q : ℕ} → entries_outcome f choices bits ≡ run_of (fill_entries g) r t → f ≡ All m q → Filled g r q m t choices bits
-  filled (got i p) {m} {q} e h =
-      let y : ◌≡◌ {A = Run Tables} (did q (record { nodes = m; choices = choices; bits = bits })) (did p (fill_entries g i t)) = sym (ap (λ (x : EntriesRead). entries_outcome x choices bits) h) ∙ e in
-      record { i = i; read = cc; after = cc }
-  filled (bad n o) {m} {q} e h =
-      absurd (let y : did q (record { nodes = m; choices = choices; bits = bits }) ≡ refused n o = sym (ap (λ (x : EntriesRead). entries_outcome x choices bits) h) ∙ e in let z : ◌≡◌ {A = ℕ} 0 1 = cc in omega arith)
-
-  unfilled : (r : Got (List Entry)) {n o : ℕ} → entries_outcome f choices bits ≡ run_of (fill_entries g) r t → f ≡ NotAll n o → r ≡ bad n o
-  unfilled (got i p) {n} {o} e h =
-      absurd (let y : refused n o ≡ did p (fill_entries g i t) = sym (ap (λ (x : EntriesRead). entries_outcome x choices bits) h) ∙ e in let z : ◌≡◌ {A = ℕ} 0 1 = cc in omega arith)
-  unfilled (bad m k) {n} {o} e h = let y : ◌≡◌ {A = Run Tables} (refused n o) (refused m k) = sym (ap (λ (x : EntriesRead). entries_outcome x choices bits) h) ∙ e in cc
-
-module _ (f s choices bits : List ℕ) {x : Step} (e : x ≡ step_of (mark IH s 0)) where
-  pub instance-mark : {n o : ℕ} → x ≡ Bad n o → YieldsInstance (schema_of f) s choices bits (NoInstance n o)
+module _ (g : List Node) (s : List ℕ) where
+  pub instance_mark : {n o : ℕ} → bad n o ≡ end_of (mark IH s 0) → bad n o ≡ instance g s
   unfolding instance part
-  instance-mark h = yields_none (schema_of f) s choices bits (rw (stopped (mark IH s 0) e h))
+  instance_mark e = rw (stopped (mark IH s 0) e)
 
-  module _ {q : ℕ} {k : Field} (h : x ≡ Next q) (c : k ≡ field_of (whole 1 s q)) where
-    pub instance-cut : {n o : ℕ} → k ≡ Cut n o → YieldsInstance (schema_of f) s choices bits (NoInstance n o)
+  module _ {q : ℕ} (h : got tt q ≡ end_of (mark IH s 0)) where
+    pub instance_cut : {n o : ℕ} → bad n o ≡ whole 1 s q → bad n o ≡ instance g s
     unfolding instance part
-    instance-cut t = yields_none (schema_of f) s choices bits (rw ((stepped (mark IH s 0) e h).1, cut (whole 1 s q) c t))
+    instance_cut e = rw ((stepped (mark IH s 0) h).1, ← e)
 
-    module _ (choices₀ bits₀ : List ℕ) {v r : ℕ} {y : EntriesRead} (t : k ≡ Value v r)
-        (w : entries_outcome y choices bits ≡ run_of (fill_entries (schema_of f)) (entries s (schema_of f) v [] r) (emptied choices₀ bits₀)) where
-      pub instance-entries : {n o : ℕ} → y ≡ NotAll n o → YieldsInstance (schema_of f) s choices bits (NoInstance n o)
+    module _ {v r : ℕ} (e : got v r ≡ whole 1 s q) (choices₀ bits₀ : List ℕ) where
+      pub instance_entries : {n o : ℕ} → refused n o ≡ run_of (fill_entries g) (entries s g v [] r) (emptied choices₀ bits₀) → bad n o ≡ instance g s
       unfolding instance part
-      instance-entries u =
-          yields_none (schema_of f) s choices bits
-          (rw ((stepped (mark IH s 0) e h).1, took (whole 1 s q) c t, unfilled (schema_of f) (emptied choices₀ bits₀) choices bits (entries s (schema_of f) v [] r) w u))
+      instance_entries w = rw ((stepped (mark IH s 0) h).1, ← e, failed (fill_entries g) (entries s g v [] r) (emptied choices₀ bits₀) w)
 
-      module _ {m p : ℕ} (u : y ≡ All m p) where
-        done : Filled (schema_of f) (entries s (schema_of f) v [] r) p m (emptied choices₀ bits₀) choices bits
-        done = filled (schema_of f) (emptied choices₀ bits₀) choices bits (entries s (schema_of f) v [] r) w u
+      module _ {p : ℕ} {t : Tables} (w : did p t ≡ run_of (fill_entries g) (entries s g v [] r) (emptied choices₀ bits₀)) where
+        done : Filled (fill_entries g) (entries s g v [] r) (emptied choices₀ bits₀) t p
+        done = ran (fill_entries g) (entries s g v [] r) (emptied choices₀ bits₀) t w
 
-        pub instance-spare : p < length s → YieldsInstance (schema_of f) s choices bits (NoInstance 7 p)
+        pub instance_spare : p < length s → bad 7 p ≡ instance g s
         unfolding instance part
-        instance-spare l =
-            yields_none (schema_of f) s choices bits (rw ((stepped (mark IH s 0) e h).1, took (whole 1 s q) c t, done.read) (ended-bad s done.i p l))
+        instance_spare l = rw ((stepped (mark IH s 0) h).1, ← e, done.read) (sym (ended-bad s done.value p l))
 
-        read_whole : length s ≤ p → instance (schema_of f) s ≡ got done.i p
+        read_whole : length s ≤ p → instance g s ≡ got done.value p
         unfolding instance part
-        read_whole l = rw ((stepped (mark IH s 0) e h).1, took (whole 1 s q) c t, done.read) (ended-ok s done.i p l)
+        read_whole l = rw ((stepped (mark IH s 0) h).1, ← e, done.read) (ended-ok s done.value p l)
 
-        pub instance-read : choices₀ ≡ replicate 64 255 → BitsRoom f bits₀ → Accepted f → Bytes f → Bytes s → length s ≤ p → YieldsInstance (schema_of f) s choices bits (Instance m)
-        instance-read z room a fb sb l =
-            let is : ◌≡◌ {A = Tables} (record { nodes = m; choices = choices; bits = bits }) (fill_entries (schema_of f) done.i (emptied (replicate 64 255) bits₀)) =
-            done.after ∙ ap (λ (j : List ℕ). fill_entries (schema_of f) done.i (emptied j bits₀)) z in
-            subst (λ (j : Tables). YieldsInstance (schema_of f) s j.choices j.bits (Instance j.nodes)) (sym is)
-            (yields f s a fb sb bits₀ room (read_whole l))
-
-pub ruleset of-instance = (instance-mark, instance-cut, instance-entries, instance-spare, instance-read)
+module _ (f s choices₀ bits₀ choices bits : List ℕ) {q v r p m : ℕ} (h : got tt q ≡ end_of (mark IH s 0)) (e : got v r ≡ whole 1 s q)
+    (w : did p (record { nodes = m; choices = choices; bits = bits }) ≡ run_of (fill_entries (schema_of f)) (entries s (schema_of f) v [] r) (emptied choices₀ bits₀)) where
+  pub instance_read : choices₀ ≡ replicate 64 255 → BitsRoom f bits₀ → Accepted f → Bytes f → Bytes s → length s ≤ p → YieldsInstance (schema_of f) s choices bits (Ok m)
+  instance_read z room a fb sb l =
+      let d = done (schema_of f) s h e choices₀ bits₀ w in
+      let is : ◌≡◌ {A = Tables} (record { nodes = m; choices = choices; bits = bits }) (fill_entries (schema_of f) d.value (emptied (replicate 64 255) bits₀)) =
+      d.is ∙ ap (λ (j : List ℕ). fill_entries (schema_of f) d.value (emptied j bits₀)) z in
+      subst (λ (j : Tables). YieldsInstance (schema_of f) s j.choices j.bits (Ok j.nodes)) (sym is)
+      (yields f s a fb sb bits₀ room (read_whole (schema_of f) s h e choices₀ bits₀ w l))
 
 -- ---- for the calls: the reader's answer, back to what was read
 
@@ -397,37 +373,36 @@ pub record AnInstance (g : List Node) (s choices bits : List ℕ) (m : ℕ) : Ty
   pub holds : planned g (plan_of g choices bits) ≡ i
   pub chosen : choices ≡ choices_of i
 
-module _ (g : List Node) (s choices bits : List ℕ) {x : InstanceRead} (w : YieldsInstance g s choices bits x) where
-  pub no-instance : {n o : ℕ} → x ≡ NoInstance n o → instance g s ≡ bad n o
-  no-instance {n} {o} h = go (instance g s) refl
-    where
-      go : (r : Got (List Entry)) → instance g s ≡ r → instance g s ≡ bad n o
-      go (got i q) e = absurd (let y : NoInstance n o ≡ Instance (nodes_of i) = sym h ∙ w.answer ∙ ap instance_read e in let z : ◌≡◌ {A = ℕ} 0 1 = cc in omega arith)
-      go (bad m k) e = let y : NoInstance n o ≡ NoInstance m k = sym h ∙ w.answer ∙ ap instance_read e in e ∙ (cc)
+module _ (g : List Node) (s choices bits : List ℕ) where
+  module _ {b : Breach} (w : YieldsInstance g s choices bits (Err b)) where
+    pub no_instance : instance g s ≡ bad (number b.fault) b.offset
+    no_instance = go (instance g s) w.answer
+      where
+        go : (r : Got (List Entry)) → bad (number b.fault) b.offset ≡ nodes_in r → r ≡ bad (number b.fault) b.offset
+        go (got i q) e = cc
+        go (bad n o) e = cc
 
-  pub an-instance : {m : ℕ} → x ≡ Instance m → AnInstance g s choices bits m
-  an-instance {m} h = go (instance g s) refl
-    where
-      go : (r : Got (List Entry)) → instance g s ≡ r → AnInstance g s choices bits m
-      go (got i q) e =
-          let y : Instance m ≡ Instance (nodes_of i) = sym h ∙ w.answer ∙ ap instance_read e in
-          record { i = i; end = q; reads = e; back = w.back i q e; nodes = cc; holds = w.holds i q e; chosen = w.chosen i q e }
-      go (bad n o) e = absurd (let y : Instance m ≡ NoInstance n o = sym h ∙ w.answer ∙ ap instance_read e in let z : ◌≡◌ {A = ℕ} 0 1 = cc in omega arith)
+    -- of a call that lends a buffer, and does k with an instance
+    pub instance_bad_did : (out : List ℕ) (k : List Entry → Outcome) {r : Answer} → r ≡ refusal (number b.fault) 4 b.offset
+        → Did (judged (leaving out) 4 (instance g s) k) r out
+    instance_bad_did out k e = refused_did out (judged_bad (leaving out) 4 (instance g s) k no_instance) e
 
-  -- the nodes that it tells are those of the instance that the arrays hold
-  pub instance-nodes : {m : ℕ} → x ≡ Instance m → m ≡ nodes_of (planned g (plan_of g choices bits))
-  instance-nodes h = let i = an-instance h in i.nodes ∙ ap nodes_of (sym i.holds)
+  module _ {x : Result ℕ Breach} {m : ℕ} (w : YieldsInstance g s choices bits x) (e : x ≡ Ok m) where
+    pub an_instance : AnInstance g s choices bits m
+    an_instance = go (instance g s) refl (sym (ap as_nodes e) ∙ w.answer)
+      where
+        go : (r : Got (List Entry)) → instance g s ≡ r → got m 0 ≡ nodes_in r → AnInstance g s choices bits m
+        go (got i q) e h = record { i = i; end = q; reads = e; back = w.back i q e; nodes = cc; holds = w.holds i q e; chosen = w.chosen i q e }
+        go (bad n o) e h = absurd (let z : ◌≡◌ {A = ℕ} 0 1 = cc in omega arith)
 
-  pub instance-back : {m : ℕ} → x ≡ Instance m → ReadsBack g (planned g (plan_of g choices bits))
-  instance-back h = let i = an-instance h in subst (ReadsBack g) (sym i.holds) i.back
+    -- the nodes that it tells are those of the instance that the arrays hold
+    pub instance_nodes : m ≡ nodes_of (planned g (plan_of g choices bits))
+    instance_nodes = an_instance.nodes ∙ ap nodes_of (sym an_instance.holds)
 
-  -- of a call that lends a buffer, and does k with an instance
-  module _ (out : List ℕ) (k : List Entry → Outcome) {r : Answer} where
-    pub instance-bad-did : {n o : ℕ} → x ≡ NoInstance n o → r ≡ refusal n 4 o → Did (judged (leaving out) 4 (instance g s) k) r out
-    instance-bad-did h e = judged-bad-did 4 (instance g s) (ap step_of (sym (no-instance h))) refl out k e
+    pub instance_back : ReadsBack g (planned g (plan_of g choices bits))
+    instance_back = subst (ReadsBack g) (sym an_instance.holds) an_instance.back
 
-    pub instance-ok-did : {m : ℕ} {after : List ℕ} → x ≡ Instance m → Did (k (planned g (plan_of g choices bits))) r after → Did (judged (leaving out) 4 (instance g s) k) r after
+    pub instance_ok_did : (out : List ℕ) (k : List Entry → Outcome) {r : Answer} {after : List ℕ} → Did (k (planned g (plan_of g choices bits))) r after
+        → Did (judged (leaving out) 4 (instance g s) k) r after
     unfolding judged
-    instance-ok-did {after = after} h d =
-        let i = an-instance h in
-        rw i.reads (subst (λ (j : List Entry). Did (k j) r after) i.holds d)
+    instance_ok_did out k {r} {after} d = rw an_instance.reads (subst (λ (j : List Entry). Did (k j) r after) an_instance.holds d)

@@ -1,8 +1,10 @@
 -- What the reader's functions answer, and the tables that they fill; the nodes that are due are the bits of a number.
 -- For the contracts of functions that no other crate calls.
-use Rattle.std.specs.Prelude.{ℕ, ◌+◌, ◌<◌, ◌≡◌, Bool, true, ◌&&◌, List, [], ◌∷◌, set, ℤ}
+use Rattle.std.specs.Prelude.{ℕ, ◌+◌, ◌<◌, ◌≡◌, Bool, true, ◌&&◌, List, [], ◌∷◌, set, ℤ, Result, Ok, Err}
 use Rattle.fields.specs.Reading.{Got, got, bad, part, field, mark}
+use Rattle.fields.specs.Answers.{number}
 use Rattle.fields.specs.Runs.{Run, did, refused}
+use Rattle.fields.specs.declared.Breach.{Breach}
 use Rattle.numbers.specs.Bits.{bit, with, turned, with_all}
 use Rattle.schema.specs.Schema.{Node, node_at}
 use Rattle.schema.specs.declared.Variable.{Variable}
@@ -10,18 +12,14 @@ use Rattle.instances.specs.Instance.{Entry, reaches}
 use Rattle.instances.specs.File.{IN, none_below, entry_of}
 use Rattle.instances.specs.Plan.{values_slot}
 use Rattle.instance_reader.specs.Decoded.{bits_of}
-use Rattle.instance_reader.specs.declared.ValueRead.{ValueRead}
-use Rattle.instance_reader.specs.declared.ValueRead.TheVariants.{Bits, NoValue}
-use Rattle.instance_reader.specs.declared.EntryRead.{EntryRead}
-use Rattle.instance_reader.specs.declared.EntryRead.TheVariants.{One, NoEntry}
-use Rattle.instance_reader.specs.declared.EntriesRead.{EntriesRead}
-use Rattle.instance_reader.specs.declared.EntriesRead.TheVariants.{All, NotAll}
+use Rattle.instance_reader.specs.declared.Visit.{Visit}
 
 -- ---- values
 
-abbrev pub value_read : Variable → Got ℤ → ValueRead
-value_read v (got x q) = Bits (bits_of v x) q
-value_read v (bad n o) = NoValue n o
+-- a value that was read, in bits
+abbrev pub in_bits : Variable → Got ℤ → Got ℕ
+in_bits v (got x q) = got (bits_of v x) q
+in_bits v (bad n o) = bad n o
 
 -- the bits of values, from slot k on
 unfoldable pub fill_values : List Variable → ℕ → List ℤ → List ℕ → List ℕ
@@ -57,9 +55,9 @@ pub record AfterEntry : Type 0 where
   pub choices : List ℕ
   pub bits : List ℕ
 
-abbrev pub entry_outcome : EntryRead → List ℕ → List ℕ → Run AfterEntry
-entry_outcome (One n m q) choices bits = did q (record { node = n; due = m; choices = choices; bits = bits })
-entry_outcome (NoEntry n o) choices bits = refused n o
+abbrev pub entry_outcome : Result (Visit × ℕ) Breach → List ℕ → List ℕ → Run AfterEntry
+entry_outcome (Ok r) choices bits = did r.1 (record { node = r.0.node; due = r.0.due; choices = choices; bits = bits })
+entry_outcome (Err b) choices bits = refused (number b.fault) b.offset
 
 -- where the nodes that are due before it are the bits of m
 abbrev pub entry_run : List Node → ℕ → Got Entry → List ℕ → List ℕ → Run AfterEntry
@@ -83,9 +81,9 @@ unfoldable pub fill_entries : List Node → List Entry → Tables → Tables
 fill_entries g [] t = t
 fill_entries g (e ∷ es) t = fill_entries g es (fill_entry g e t)
 
-abbrev pub entries_outcome : EntriesRead → List ℕ → List ℕ → Run Tables
-entries_outcome (All m q) choices bits = did q (record { nodes = m; choices = choices; bits = bits })
-entries_outcome (NotAll n o) choices bits = refused n o
+abbrev pub entries_outcome : Result (ℕ × ℕ) Breach → List ℕ → List ℕ → Run Tables
+entries_outcome (Ok r) choices bits = did r.1 (record { nodes = r.0; choices = choices; bits = bits })
+entries_outcome (Err b) choices bits = refused (number b.fault) b.offset
 
 -- the tables before the first entry
 abbrev pub emptied : List ℕ → List ℕ → Tables

@@ -2,6 +2,7 @@
 #![tactic(auto)]
 
 ghost use Rattle.std.specs.Prelude.{◌≡◌, [], length, replicate};
+ghost use Rattle.fields.specs.Answers.{as_got};
 ghost use Rattle.fields.specs.Runs.{outcome, run_of};
 ghost use Rattle.numbers.specs.Bits.{bit};
 ghost use Rattle.schema.specs.Schema.{most_nodes, schema_of, node_at};
@@ -10,54 +11,33 @@ ghost use Rattle.instances.specs.Instance.{elem, right_choice};
 ghost use Rattle.instances.specs.File.{value, values, entry_of, entries};
 ghost use Rattle.instances.specs.Plan.{values_slot, BitsRoom};
 ghost use Rattle.instance_reader.specs.Decoded.{YieldsInstance};
-ghost use Rattle.instance_reader.specs.Reader.{value_read, fill_values, entry_where, entry_outcome, entry_run, Within, fill_entries, entries_outcome, emptied};
+ghost use Rattle.instance_reader.specs.Reader.{in_bits, fill_values, entry_where, entry_outcome, entry_run, Within, fill_entries, entries_outcome, emptied};
 
-use fields::{Field, SignedField, Step};
+use fields::{Breach, Fault};
+use reading::{read, read_mark};
 use schema::{MOST_NODES, MOST_VARIABLES, Variable};
 
-// The bits of a value and the position after it, or a breach.
+// An entry's node, and the nodes that are due after it, as bits.
 #[derive(Clone, Copy)]
-enum ValueRead {
-    Bits { bits: u32, next: usize },
-    NoValue { number: u8, offset: usize },
+struct Visit {
+    node: usize,
+    due: u64,
 }
 
-// An entry's node, the nodes due after it, as bits, and the position after it; or a breach.
-#[derive(Clone, Copy)]
-enum EntryRead {
-    One { node: usize, due: u64, next: usize },
-    NoEntry { number: u8, offset: usize },
-}
-
-// The nodes that have an entry, as bits, and the position after the entries; or a breach.
-#[derive(Clone, Copy)]
-enum EntriesRead {
-    All { nodes: u64, next: usize },
-    NotAll { number: u8, offset: usize },
-}
-
-// The nodes that have an entry, as bits; or a breach.
-#[derive(Clone, Copy)]
-pub enum InstanceRead {
-    Instance { nodes: u64 },
-    NoInstance { number: u8, offset: usize },
-}
-
+#[tactic(auto, using(crate::proofs::Reader::has_found, crate::proofs::Reader::has_more, crate::proofs::Reader::has_done))]
 fn has_successor(schema: &[u8], table: &[u16], n: usize, x: usize) -> bool
     requires { NodeIn schema.now table.now n }
     ensures { result ≡ elem x (node_at (schema_of schema.now) n).successors }
 {
-    let c = nodes::successor_count(schema, table, n);
-    let mut j: usize = 0;
-    while j < c {
+    for j in 0..nodes::successor_count(schema, table, n) {
         if x == nodes::successor_of(schema, table, n, j) {
             return true;
         }
-        j += 1;
     }
     false
 }
 
+#[tactic(auto, using(crate::proofs::Reader::right_one))]
 fn right_choice(schema: &[u8], table: &[u16], n: usize, c: usize) -> bool
     requires { NodeIn schema.now table.now n }
     ensures { result ≡ right_choice (node_at (schema_of schema.now) n) c }
@@ -68,51 +48,31 @@ fn right_choice(schema: &[u8], table: &[u16], n: usize, c: usize) -> bool
     c == 255
 }
 
-fn read_number(lo: i32, hi: i32, s: &[u8], at: usize) -> ValueRead
-    ensures { result ≡ value_read (Variable.Number lo hi) (value s.now (Variable.Number lo hi) at) }
+#[tactic(auto, unfolding(fields::specs::Reading::part, fields::specs::Reading::field, instances::specs::File::value, instances::specs::File::value_width, instances::specs::File::value_of, instances::specs::Instance::in_domain, crate::specs::Decoded::bits_of))]
+fn read_number(lo: i32, hi: i32, s: &[u8], at: usize) -> Result<(u32, usize), Breach>
+    ensures { as_got result ≡ in_bits (Variable.Number lo hi) (value s.now (Variable.Number lo hi) at) }
 {
-    match reading::read_i32(s, at) {
-        SignedField::NoSigned { number, offset } => ValueRead::NoValue { number, offset },
-        SignedField::Signed { value, next } => {
-            if lo <= value {
-                if value <= hi {
-                    return ValueRead::Bits {
-                        bits: fields::to_unsigned(value),
-                        next,
-                    };
-                }
-                return ValueRead::NoValue {
-                    number: 17,
-                    offset: at,
-                };
-            }
-            ValueRead::NoValue {
-                number: 17,
-                offset: at,
-            }
-        }
+    let (value, next) = read::<i32>(s, at)?;
+    if lo <= value && value <= hi {
+        return Ok((value.cast_unsigned(), next));
     }
+    Err(Breach::new(Fault::Value, at))
 }
 
-fn read_listed(size: u8, s: &[u8], at: usize) -> ValueRead
-    ensures { result ≡ value_read (Variable.Listed size) (value s.now (Variable.Listed size) at) }
+#[tactic(auto, unfolding(fields::specs::Reading::part, fields::specs::Reading::field, instances::specs::File::value, instances::specs::File::value_width, instances::specs::File::value_of, instances::specs::Instance::in_domain, crate::specs::Decoded::bits_of))]
+fn read_listed(size: u8, s: &[u8], at: usize) -> Result<(u32, usize), Breach>
+    ensures { as_got result ≡ in_bits (Variable.Listed size) (value s.now (Variable.Listed size) at) }
 {
-    match reading::read_u8(s, at) {
-        Field::Cut { number, offset } => ValueRead::NoValue { number, offset },
-        Field::Value { value, next } => {
-            if value < size as u32 {
-                return ValueRead::Bits { bits: value, next };
-            }
-            ValueRead::NoValue {
-                number: 17,
-                offset: at,
-            }
-        }
+    let (value, next) = read::<u8>(s, at)?;
+    if value < size {
+        return Ok((u32::from(value), next));
     }
+    Err(Breach::new(Fault::Value, at))
 }
 
-fn read_value(v: Variable, s: &[u8], at: usize) -> ValueRead
-    ensures { result ≡ value_read v (value s.now v at) }
+// The bits of a variable's value, and the position after it.
+fn read_value(v: Variable, s: &[u8], at: usize) -> Result<(u32, usize), Breach>
+    ensures { as_got result ≡ in_bits v (value s.now v at) }
 {
     match v {
         Variable::Number { lo, hi } => read_number(lo, hi, s, at),
@@ -121,6 +81,7 @@ fn read_value(v: Variable, s: &[u8], at: usize) -> ValueRead
 }
 
 // Node n's values, their bits into its slots.
+#[tactic(auto, using(crate::proofs::Reader::values_init, crate::proofs::Reader::values_room, crate::proofs::Reader::values_same, crate::proofs::Reader::values_bad, crate::proofs::Reader::values_step, crate::proofs::Reader::values_exit))]
 fn read_values(
     schema: &[u8],
     table: &[u16],
@@ -128,71 +89,51 @@ fn read_values(
     s: &[u8],
     from: usize,
     bits: &mut [u32],
-) -> Step
+) -> Result<usize, Breach>
     requires node_in { NodeIn schema.now table.now n }
     requires bits_room { BitsRoom schema.now bits.old }
     ensures { outcome result bits.new ≡ run_of (fill_values (node_at (schema_of schema.now) n).variables (values_slot n)) (values s.now (node_at (schema_of schema.now) n).variables from) bits.old }
 {
-    let count = nodes::variable_count(schema, table, n);
-    let mut k: usize = 0;
     let mut at = from;
-    while k < count {
+    for k in 0..nodes::variable_count(schema, table, n) {
         let v = nodes::variable_of(schema, table, n, k);
-        match read_value(v, s, at) {
-            ValueRead::NoValue { number, offset } => {
-                return Step::Bad { number, offset };
-            }
-            ValueRead::Bits { bits: u, next } => {
-                bits[MOST_VARIABLES * n + k] = u;
-                at = next;
-                k += 1;
-            }
-        }
+        let (u, next) = read_value(v, s, at)?;
+        bits[MOST_VARIABLES * n + k] = u;
+        at = next;
     }
-    Step::Next { at }
+    Ok(at)
 }
 
 // Node n's choice and values.
+#[tactic(auto, using(crate::proofs::Reader::rest_cut, crate::proofs::Reader::rest_choice, crate::proofs::Reader::rest_value, crate::proofs::Reader::rest_ok))]
 fn read_entry_of(
     schema: &[u8],
     table: &[u16],
     n: usize,
     due: u64,
     s: &[u8],
-    at: usize,
+    from: usize,
     choices: &mut [u8; MOST_NODES],
     bits: &mut [u32],
-) -> EntryRead
+) -> Result<(Visit, usize), Breach>
     requires node_in { NodeIn schema.now table.now n }
     requires choices_len { length choices.old ≡ most_nodes }
     requires bits_room { BitsRoom schema.now bits.old }
-    ensures { entry_outcome result choices.new bits.new ≡ entry_run (schema_of schema.now) due (entry_of s.now (schema_of schema.now) n at) choices.old bits.old }
+    ensures { entry_outcome result choices.new bits.new ≡ entry_run (schema_of schema.now) due (entry_of s.now (schema_of schema.now) n from) choices.old bits.old }
 {
-    match reading::read_u8(s, at) {
-        Field::Cut { number, offset } => EntryRead::NoEntry { number, offset },
-        Field::Value { value, next } => {
-            let c = value as usize;
-            if right_choice(schema, table, n, c) {
-                choices[n] = value as u8;
-                match read_values(schema, table, n, s, next, bits) {
-                    Step::Bad { number, offset } => EntryRead::NoEntry { number, offset },
-                    Step::Next { at } => EntryRead::One {
-                        node: n,
-                        due: instances::reach(schema, table, n, c, numbers::turned_bit(due, n)),
-                        next: at,
-                    },
-                }
-            } else {
-                EntryRead::NoEntry {
-                    number: 16,
-                    offset: at,
-                }
-            }
-        }
+    let (choice, at) = read::<u8>(s, from)?;
+    let c = choice as usize;
+    if !right_choice(schema, table, n, c) {
+        return Err(Breach::new(Fault::Choice, from));
     }
+    choices[n] = choice;
+    let next = read_values(schema, table, n, s, at, bits)?;
+    let due = instances::reach(schema, table, n, c, numbers::turned_bit(due, n));
+    Ok((Visit { node: n, due }, next))
 }
 
 // An entry, of the lowest of the nodes that are due.
+#[tactic(auto, using(crate::proofs::Reader::entry_mark, crate::proofs::Reader::entry_cut, crate::proofs::Reader::entry_none, crate::proofs::Reader::entry_other, crate::proofs::Reader::entry_this, crate::proofs::Reader::lowest_node))]
 fn read_entry(
     schema: &[u8],
     table: &[u16],
@@ -201,115 +142,74 @@ fn read_entry(
     from: usize,
     choices: &mut [u8; MOST_NODES],
     bits: &mut [u32],
-) -> EntryRead
+) -> Result<(Visit, usize), Breach>
     requires tabled { Tabled schema.now table.now }
     requires within { Within due (length (schema_of schema.now)) }
     requires choices_len { length choices.old ≡ most_nodes }
     requires bits_room { BitsRoom schema.now bits.old }
     ensures { entry_outcome result choices.new bits.new ≡ entry_run (schema_of schema.now) due (entry_where s.now (schema_of schema.now) (bit due) from) choices.old bits.old }
 {
-    match reading::read_mark(s, from, b"IN") {
-        Step::Bad { number, offset } => EntryRead::NoEntry { number, offset },
-        Step::Next { at } => match reading::read_u8(s, at) {
-            Field::Cut { number, offset } => EntryRead::NoEntry { number, offset },
-            Field::Value { value, next } => {
-                if due == 0 {
-                    return EntryRead::NoEntry {
-                        number: 15,
-                        offset: at,
-                    };
-                }
-                let n = numbers::lowest(due);
-                if value as usize == n {
-                    return read_entry_of(schema, table, n, due, s, next, choices, bits);
-                }
-                EntryRead::NoEntry {
-                    number: 15,
-                    offset: at,
-                }
-            }
-        },
+    let at = read_mark(s, from, b"IN")?;
+    let (node, next) = read::<u8>(s, at)?;
+    let n = node as usize;
+    if due == 0 || n != numbers::lowest(due) {
+        return Err(Breach::new(Fault::Entry, at));
     }
+    read_entry_of(schema, table, n, due, s, next, choices, bits)
 }
 
-// m entries, each node once: the nodes that are due are the bits of a number.
+// m entries, each node once: the nodes that are due are the bits of a number, and so are, in the answer, those that have an entry.
+#[tactic(auto, using(crate::proofs::Reader::going_init, crate::proofs::Reader::going_within, crate::proofs::Reader::going_long, crate::proofs::Reader::going_room, crate::proofs::Reader::going_same, crate::proofs::Reader::going_after, crate::proofs::Reader::going_exit, crate::proofs::Reader::going_due, crate::proofs::Reader::going_bad, crate::proofs::Reader::going_step))]
 fn read_entries(
     schema: &[u8],
     table: &[u16],
     s: &[u8],
-    m: u32,
+    m: u8,
     from: usize,
     choices: &mut [u8; MOST_NODES],
     bits: &mut [u32],
-) -> EntriesRead
+) -> Result<(u64, usize), Breach>
     requires accepted { Accepted schema.now }
     requires tabled { Tabled schema.now table.now }
     requires choices_len { length choices.old ≡ most_nodes }
     requires bits_room { BitsRoom schema.now bits.old }
     ensures { entries_outcome result choices.new bits.new ≡ run_of (fill_entries (schema_of schema.now)) (entries s.now (schema_of schema.now) m [] from) (emptied choices.old bits.old) }
 {
-    let mut left = m;
     let mut due: u64 = 1;
     let mut nodes: u64 = 0;
     let mut at = from;
-    while 0 < left {
-        match read_entry(schema, table, due, s, at, choices, bits) {
-            EntryRead::NoEntry { number, offset } => {
-                return EntriesRead::NotAll { number, offset };
-            }
-            EntryRead::One { node, due: d, next } => {
-                nodes = numbers::with(nodes, node);
-                due = d;
-                at = next;
-                left -= 1;
-            }
-        }
+    for _turn in 0..m {
+        let (visit, next) = read_entry(schema, table, due, s, at, choices, bits)?;
+        nodes = numbers::with(nodes, visit.node);
+        due = visit.due;
+        at = next;
     }
     if due == 0 {
-        return EntriesRead::All { nodes, next: at };
+        return Ok((nodes, at));
     }
-    EntriesRead::NotAll {
-        number: 15,
-        offset: 2,
-    }
+    Err(Breach::new(Fault::Entry, 2))
 }
 
-// The whole file, against an accepted schema and its table: the nodes that have an entry, with their choices and the bits
-// of their values in the arrays, which are lent.
+// The whole file, against an accepted schema and its table: the nodes that have an entry, as bits, with their choices and the
+// bits of their values in the arrays, which are lent.
 pub fn read_instance(
     schema: &[u8],
     table: &[u16],
     s: &[u8],
     choices: &mut [u8; MOST_NODES],
     bits: &mut [u32],
-) -> InstanceRead
+) -> Result<u64, Breach>
     requires accepted { Accepted schema.now }
     requires tabled { Tabled schema.now table.now }
     requires choices_value { choices.old ≡ replicate most_nodes 255 }
     requires bits_room { BitsRoom schema.now bits.old }
     ensures { YieldsInstance (schema_of schema.now) s.now choices.new bits.new result }
 {
-    match reading::read_mark(s, 0, b"IH") {
-        Step::Bad { number, offset } => InstanceRead::NoInstance { number, offset },
-        Step::Next { at } => match reading::read_u8(s, at) {
-            Field::Cut { number, offset } => InstanceRead::NoInstance { number, offset },
-            Field::Value { value, next } => {
-                match read_entries(schema, table, s, value, next, choices, bits) {
-                    EntriesRead::NotAll { number, offset } => InstanceRead::NoInstance {
-                        number,
-                        offset,
-                    },
-                    EntriesRead::All { nodes, next } => {
-                        if next < s.len() {
-                            return InstanceRead::NoInstance {
-                                number: 7,
-                                offset: next,
-                            };
-                        }
-                        InstanceRead::Instance { nodes }
-                    }
-                }
-            }
-        },
+    let at = read_mark(s, 0, b"IH")?;
+    let (m, next) = read::<u8>(s, at)?;
+    let (nodes, end) = read_entries(schema, table, s, m, next, choices, bits)?;
+    if end < s.len() {
+        return Err(Breach::new(Fault::Remainder, end));
     }
+    Ok(nodes)
 }

@@ -35,16 +35,16 @@ module _ (s t : List ℕ) (n : ℕ) (i : NodeIn s t n) where
 bits-room : (s : List ℕ) (k : ℕ) → values_slot (length (schema_of s)) ≤ k → BitsRoom s (replicate k 0)
 bits-room s k h = record { long = omega (arith, length-replicate {A = ℕ} k 0) }
 
-pub bits-64 : (s : List ℕ) → Accepted s → Bytes s → BitsRoom s (replicate 256 0)
-bits-64 s a b = bits-room s 256 (omega (arith, (sound s b a.some).few))
+pub bits_64 : (s : List ℕ) → Accepted s → Bytes s → BitsRoom s (replicate 256 0)
+bits_64 s a b = bits-room s 256 (omega (arith, (sound s b a.some).few))
 
 -- of a schema of so many nodes
 module _ (s : List ℕ) {count : ℕ} (e : AtMost 64 (length (schema_of s)) count) where
-  pub bits-4 : count ≤ 4 → BitsRoom s (replicate 16 0)
-  bits-4 h = bits-room s 16 (omega (arith, e.is))
+  pub bits_4 : count ≤ 4 → BitsRoom s (replicate 16 0)
+  bits_4 h = bits-room s 16 (omega (arith, e.is))
 
-  pub bits-16 : count ≤ 16 → BitsRoom s (replicate 64 0)
-  bits-16 h = bits-room s 64 (omega (arith, e.is))
+  pub bits_16 : count ≤ 16 → BitsRoom s (replicate 64 0)
+  bits_16 h = bits-room s 64 (omega (arith, e.is))
 
 -- an array of the same length has it too
 pub bits-kept : (s bits after : List ℕ) → BitsRoom s bits → length after ≡ length bits → BitsRoom s after

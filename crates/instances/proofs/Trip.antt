@@ -17,7 +17,7 @@ use Rattle.fields.specs.Reading.{got, part, be, whole, mark, signed}
 use Rattle.fields.specs.Writing.{spell, unsigned}
 use Rattle.fields.proofs.Tests.{and-true, never}
 use Rattle.fields.proofs.Bytes.{Bytes, be-below, spell-length}
-use Rattle.fields.proofs.Reading.{part-ok, whole-got, ended-ok}
+use Rattle.fields.proofs.Reading.{part-ok, whole_got, ended-ok}
 use Rattle.fields.proofs.Signed.{signed-unsigned, unsigned_signed, unsigned-below}
 use Rattle.fields.proofs.Back.{went, chosen, field_back, any-back, after-mark, ended-back}
 use Rattle.schema.specs.Schema.{Node, node_at}
@@ -133,7 +133,7 @@ follows-read g fit i f small few =
     let b = at-parts s 2 mb eb (spell-length 1 (length i)) a.1 in
     let y : 3 + length eb ≡ length s = omega (arith, ap length nest, length-append mb eb, spell-length 1 (length i)) in
     part-ok (mark IH s 0) _ (mark-at IH s 0 IH-letters a.0)
-    (part-ok (whole 1 s 2) _ (whole-got 1 s 2 (omega arith) ∙ ap (λ (m : ℕ). got m 3) (spell-read 1 (length i) s 2 few b.0))
+    (part-ok (whole 1 s 2) _ (whole_got 1 s 2 (omega arith) ∙ ap (λ (m : ℕ). got m 3) (spell-read 1 (length i) s 2 few b.0))
     (part-ok (entries s g (length i) [] 3) _ (entries-read g fit s 3 f small b.1)
     (ended-ok s i (3 + length eb) (omega arith) ∙ ap (got i) y)))
 

@@ -5,15 +5,16 @@ use Prim.Native.Nat.{ℕ}
 use Rattle.fields.specs.Reading.{Got, got, bad, part, be, whole, field, mark}
 use Rattle.decimals.specs.Decimal.{digits, decimal}
 use Rattle.decimals.proofs.Texts.{codes}
-use Rattle.lines.specs.Record.{Pass, pass_at}
+use Rattle.lines.specs.Record.{pass_at}
+use Rattle.lines.specs.declared.Days.{Days}
 use Rattle.lines.specs.Line.{words, line, result_text, line_of, bad_line_of}
 use Rattle.lines.proofs.ReadBack.{half_of, bytes_of}
 use Rattle.lines.proofs.Texts.{lowered, bytes}
 
 -- ---- records: 505300640065, whole, behind another, cut at each of its lengths, and with wrong letters
 
-abbrev days : ℕ → ℕ → ℕ → Got Pass
-days a b q = got (record { first = a; last = b }) q
+abbrev days : ℕ → ℕ → ℕ → Got Days
+days a b q = got (record { a = a; b = b }) q
 
 pub record Records : Type 0 where
   pub whole-one : pass_at (bytes "505300640065") 0 ≡ days 100 101 6

@@ -1,42 +1,25 @@
--- A PS record: a day that was read fits two bytes; where an accepted record ends, and between which places a refused one stops.
+-- A PS record: where an accepted record ends, and between which places a refused one stops.
 -- Rests on the laws of reading of the crate fields.
-use mathlib.Core.Path.{◌≡◌, refl, ap, ◌∙◌}
+use mathlib.Core.Path.{◌≡◌, refl}
 use mathlib.Core.Bool.{Bool, true, false, cond}
 use mathlib.Core.List.{List}
-use Prim.Native.Nat.{ℕ, ◌+◌, ◌≤◌, ◌<◌}
+use Prim.Native.Nat.{ℕ, ◌+◌, ◌≤◌}
 use native.Mathlib.Omega.{arith}
 use lib.Dec.{leb, eqb}
 use lib.ListN.{length}
 use Rattle.fields.specs.Reading.{Got, got, bad, part, be, whole, field, mark}
-use Rattle.fields.specs.Answers.{field_of}
-use Rattle.fields.specs.declared.Field.{Field}
-use Rattle.fields.specs.declared.Field.TheVariants.{Value}
-use Rattle.fields.proofs.Bytes.{Bytes, be-below}
 use Rattle.fields.proofs.Back.{whole_back, any-back, mark-back, after-mark}
-use Rattle.fields.proofs.Reading.{took, values}
-use Rattle.lines.specs.Record.{Pass, PS, pass_at, pass_in}
-use Rattle.lines.specs.declared.PassRead.{PassRead}
-use Rattle.lines.specs.declared.PassRead.TheVariants.{Days, NoPass}
-
-pub day-small : (s : List ℕ) (p : ℕ) {f : Field} {v q : ℕ} → f ≡ field_of (whole 2 s p) → f ≡ Value v q → Bytes s → v < 65536
-day-small s p e h b = omega (arith, (whole_back 2 s p (took (whole 2 s p) e h)).value, be-below 2 s p b)
-
-pub days-are : {a b v w q : ℕ} → a ≡ v → b ≡ w → ◌≡◌ {A = Got Pass} (got (record { first = v; last = w }) q) (got (record { first = a; last = b }) q)
-days-are e h = rw (e, h)
-
-pub ruleset passing = (
-  days-are,
-  values,
-)
+use Rattle.lines.specs.Record.{PS, pass_at}
+use Rattle.lines.specs.declared.Days.{Days}
 
 -- a record that was read has six bytes
-pub record Taken (s : List ℕ) (p : ℕ) (x : Pass) (q : ℕ) : Type 0 where
+pub record Taken (s : List ℕ) (p : ℕ) (x : Days) (q : ℕ) : Type 0 where
   pub inside : p + 6 ≤ length s
   pub next : q ≡ p + 6
-  pub first : x.first ≡ be 2 s (p + 2)
-  pub last : x.last ≡ be 2 s (p + 4)
+  pub first : x.a ≡ be 2 s (p + 2)
+  pub last : x.b ≡ be 2 s (p + 4)
 
-pub pass-taken : (s : List ℕ) (p : ℕ) {x : Pass} {q : ℕ} → pass_at s p ≡ got x q → Taken s p x q
+pub pass-taken : (s : List ℕ) (p : ℕ) {x : Days} {q : ℕ} → pass_at s p ≡ got x q → Taken s p x q
 unfolding pass_at
 pass-taken s p {x} {q} e =
     let h = after-mark PS s p _ e in
@@ -86,11 +69,3 @@ pass-stops s p e =
     (λ a r h k. let x = (whole_back 2 s q h).next in
     part-stops (whole 2 s r) _ k (λ h. stopped-at (whole-stops 2 s r h) 4 (omega arith) (omega arith) (omega arith, omega arith))
     (λ b t h k. absurd (let z : ◌≡◌ {A = ℕ} 0 1 = cc in omega arith))))
-
--- the same of what read_pass answers
-module _ (s : List ℕ) (p : ℕ) {r : PassRead} (e : pass_at s p ≡ pass_in r) where
-  pub days-taken : {a b q : ℕ} → r ≡ Days a b q → Taken s p (record { first = a; last = b }) q
-  days-taken h = pass-taken s p (e ∙ ap pass_in h)
-
-  pub no-pass-stops : {n o : ℕ} → r ≡ NoPass n o → Stopped p n o
-  no-pass-stops h = pass-stops s p (e ∙ ap pass_in h)

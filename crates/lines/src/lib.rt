@@ -2,48 +2,45 @@
 #![tactic(auto)]
 
 ghost use Rattle.std.specs.Prelude.{◌≡◌, [], ◌∷◌, ◌+◌, ◌*◌, ◌<◌, ◌≤◌, length};
+ghost use Rattle.fields.specs.Answers.{number, file_number, as_got};
 ghost use Rattle.fields.specs.Writing.{Wrote};
 ghost use Rattle.decimals.specs.Decimal.{decimal};
-ghost use Rattle.lines.specs.Record.{pass_at, pass_in};
-ghost use Rattle.lines.specs.Line.{hex, hex_digit, words, result_text, line_of, bad_line_of, Laid};
+ghost use Rattle.lines.specs.Record.{pass_at};
+ghost use Rattle.lines.specs.Line.{hex, hex_digit, words, line_of, bad_line_of, answer_text, instance_in, said, Laid};
 
-use fields::{Field, Step};
+use fields::{Breach, Fault, File, Refusal};
+use reading::{read, read_mark};
 
-// A pass's first and last day and the position after its record, or a breach.
+// A pass's first and last day.
 #[derive(Clone, Copy)]
-pub enum PassRead {
-    Days { a: u16, b: u16, next: usize },
-    NoPass { number: u8, offset: usize },
-}
-
-fn narrow(x: u32) -> u16
-    requires { x < 65536 }
-    ensures { result ≡ x }
-{
-    x as u16
+pub struct Days {
+    pub a: u16,
+    pub b: u16,
 }
 
 // The record PS at a position; the rule on its days is the call's.
-pub fn read_pass(s: &[u8], at: usize) -> PassRead
-    ensures { pass_at s.now at ≡ pass_in result }
+#[tactic(auto, unfolding(fields::specs::Reading::part, crate::specs::Record::pass_at))]
+pub fn read_pass(s: &[u8], from: usize) -> Result<(Days, usize), Breach>
+    ensures { as_got result ≡ pass_at s.now from }
 {
-    match reading::read_mark(s, at, b"PS") {
-        Step::Bad { number, offset } => PassRead::NoPass { number, offset },
-        Step::Next { at } => match reading::read_u16(s, at) {
-            Field::Cut { number, offset } => PassRead::NoPass { number, offset },
-            Field::Value { value: a, next } => match reading::read_u16(s, next) {
-                Field::Cut { number, offset } => PassRead::NoPass { number, offset },
-                Field::Value { value: b, next } => PassRead::Days {
-                    a: narrow(a),
-                    b: narrow(b),
-                    next,
-                },
-            },
-        },
-    }
+    let at = read_mark(s, from, b"PS")?;
+    let (a, at) = read::<u16>(s, at)?;
+    let (b, next) = read::<u16>(s, at)?;
+    Ok((Days { a, b }, next))
+}
+
+// A byte, and the place after it.
+#[tactic(auto, using(fields::proofs::Bytes::put_one))]
+fn put_byte(out: &mut [u8], at: usize, x: u8) -> usize
+    requires { at < length out.old }
+    ensures { Wrote out.old at (x ∷ []) out.new result }
+{
+    out[at] = x;
+    at + 1
 }
 
 // A number in decimal.
+#[tactic(auto, using(crate::proofs::Writing::decimal_short))]
 fn put_decimal(out: &mut [u8], at: usize, x: u64) -> usize
     requires { at + 20 ≤ length out.old }
     ensures { Laid 20 out.old at (decimal x) out.new result }
@@ -59,94 +56,115 @@ fn put_number(out: &mut [u8], at: usize, x: u64) -> usize
     ensures { Wrote out.old at (words (decimal x ∷ [])) out.new result }
 {
     let end = put_decimal(out, at, x);
-    out[end] = b' ';
-    end + 1
+    put_byte(out, end, b' ')
 }
 
-// The pass's days.
-fn put_days(out: &mut [u8], at: usize, a: u16, b: u16) -> usize
-    requires { at + 32 ≤ length out.old }
-    ensures { Laid 12 out.old at (words (decimal a ∷ decimal b ∷ [])) out.new result }
-{
-    let at = put_number(out, at, a as u64);
-    put_number(out, at, b as u64)
+impl Days {
+    fn put(self, out: &mut [u8], at: usize) -> usize
+        requires { at + 32 ≤ length out.old }
+        ensures { Laid 12 out.old at (words (decimal self.a ∷ decimal self.b ∷ [])) out.new result }
+    {
+        let at = put_number(out, at, self.a as u64);
+        put_number(out, at, self.b as u64)
+    }
 }
 
-// Number, file and offset.
-fn put_verdict(out: &mut [u8], at: usize, number: u8, file: u8, offset: u64) -> usize
-    requires { at + 32 ≤ length out.old }
-    ensures { Laid 29 out.old at (words (decimal number ∷ decimal file ∷ decimal offset ∷ [])) out.new result }
-{
-    let at = put_number(out, at, number as u64);
-    let at = put_number(out, at, file as u64);
-    put_number(out, at, offset)
+// What a line says of a pass before the instance: number, file and offset.
+#[derive(Clone, Copy)]
+struct Verdict {
+    number: u8,
+    file: u8,
+    offset: u64,
+}
+
+// All three are 0 on success.
+const SUCCESS: Verdict = Verdict {
+    number: 0,
+    file: 0,
+    offset: 0,
+};
+
+impl Verdict {
+    fn new(fault: Fault, file: File, offset: u64) -> Verdict
+        ensures { result ≡ record { number = number fault; file = file_number file; offset = offset } }
+    {
+        Verdict {
+            number: fault as u8,
+            file: file as u8,
+            offset,
+        }
+    }
+
+    fn put(self, out: &mut [u8], at: usize) -> usize
+        requires { at + 32 ≤ length out.old }
+        ensures { Laid 29 out.old at (words (decimal self.number ∷ decimal self.file ∷ decimal self.offset ∷ [])) out.new result }
+    {
+        let at = put_number(out, at, self.number as u64);
+        let at = put_number(out, at, self.file as u64);
+        put_number(out, at, self.offset)
+    }
 }
 
 // The digit of half a byte.
+#[tactic(auto, using(std::proofs::lemmas::Bool::cond_below, std::proofs::lemmas::Bool::cond_above), unfolding(crate::specs::Line::hex_digit))]
 fn hex_digit(n: u8) -> u8
     requires { n < 16 }
     ensures { result ≡ hex_digit n }
 {
-    if n < 10 { 48 + n } else { 87 + n }
+    if n < 10 { b'0' + n } else { b'a' + (n - 10) }
 }
 
 // Bytes in lower-case hex.
-fn put_hex(out: &mut [u8], at: usize, bytes: &[u8]) -> usize
-    requires { at + 2 * length bytes.now ≤ length out.old }
-    ensures { Wrote out.old at (hex bytes.now) out.new result }
+#[tactic(auto, using(crate::proofs::Writing::hex_init, crate::proofs::Writing::hex_room, crate::proofs::Writing::hex_exit))]
+fn put_hex(out: &mut [u8], from: usize, bytes: &[u8]) -> usize
+    requires { from + 2 * length bytes.now ≤ length out.old }
+    ensures { Wrote out.old from (hex bytes.now) out.new result }
 {
-    let mut to = at;
-    let mut i: usize = 0;
-    while i < bytes.len() {
-        out[to] = hex_digit(bytes[i] / 16);
-        out[to + 1] = hex_digit(bytes[i] % 16);
-        to += 2;
-        i += 1;
+    let mut at = from;
+    for byte in bytes {
+        at = put_byte(out, at, hex_digit(byte / 16));
+        at = put_byte(out, at, hex_digit(byte % 16));
     }
-    to
+    at
 }
 
-// The instance, or - where the number says a refusal.
-fn put_result(out: &mut [u8], at: usize, number: u8, instance: &[u8]) -> usize
-    requires { at + 2 * length instance.now + 1 ≤ length out.old }
-    ensures { Laid (2 * length instance.now + 1) out.old at (result_text number instance.now) out.new result }
+// A call's answer: number, file and offset, and the instance, or - on refusal.
+fn put_answer(out: &mut [u8], at: usize, answer: Result<&[u8], Refusal>) -> usize
+    requires { at + 32 + 2 * length (instance_in answer) ≤ length out.old }
+    ensures { Laid (30 + 2 * length (instance_in answer.entry)) out.old at (said answer_text answer.entry) out.new result }
 {
-    if number == 0 {
-        return put_hex(out, at, instance);
+    match answer {
+        Ok(instance) => {
+            let at = SUCCESS.put(out, at);
+            put_hex(out, at, instance)
+        }
+        Err(refusal) => {
+            let verdict = Verdict::new(refusal.fault, refusal.file, refusal.offset as u64);
+            let at = verdict.put(out, at);
+            put_byte(out, at, b'-')
+        }
     }
-    out[at] = b'-';
-    at + 1
 }
 
 // The line of a pass that was read.
-pub fn put_line(
-    out: &mut [u8],
-    at: usize,
-    a: u16,
-    b: u16,
-    number: u8,
-    file: u8,
-    offset: usize,
-    instance: &[u8],
-) -> usize
-    requires { at + 64 + 2 * length instance.now ≤ length out.old }
-    ensures { Laid (64 + 2 * length instance.now) out.old at (line_of a b number file offset instance.now) out.new result }
+pub fn put_line(out: &mut [u8], at: usize, days: Days, answer: Result<&[u8], Refusal>) -> usize
+    requires { at + 64 + 2 * length (instance_in answer) ≤ length out.old }
+    ensures { Laid (64 + 2 * length (instance_in answer.entry)) out.old at (said (line_of days.a days.b) answer.entry) out.new result }
 {
-    let at = put_days(out, at, a, b);
-    let at = put_verdict(out, at, number, file, offset as u64);
-    let at = put_result(out, at, number, instance);
-    out[at] = b'\n';
-    at + 1
+    let at = days.put(out, at);
+    let at = put_answer(out, at, answer);
+    put_byte(out, at, b'\n')
 }
 
-// The line of a bad PS.
-pub fn put_bad_line(out: &mut [u8], at: usize, number: u8, offset: u64) -> usize
+// The line of a bad PS: its fault, and its offset from the start of the input.
+pub fn put_bad_line(out: &mut [u8], at: usize, fault: Fault, offset: u64) -> usize
     requires { at + 64 ≤ length out.old }
-    ensures { Laid 64 out.old at (bad_line_of number offset) out.new result }
+    ensures { Laid 64 out.old at (bad_line_of (number fault) offset) out.new result }
 {
     writing::put_mark(out, at, b"- ");
     writing::put_mark(out, at + 2, b"- ");
-    let at = put_verdict(out, at + 4, number, 3, offset);
+    let verdict = Verdict::new(fault, File::Pass, offset);
+    let at = verdict.put(out, at + 4);
     writing::put_mark(out, at, b"-\n");
     at + 2
 }

@@ -10,7 +10,7 @@ use instances::{LISTED_WIDTH, NUMBER_WIDTH};
 use schema::Variable;
 
 // How many bytes a value has in an instance file.
-fn value_width(v: Variable) -> usize
+pub fn value_width(v: Variable) -> usize
     ensures { result ≡ value_width v }
 {
     match v {

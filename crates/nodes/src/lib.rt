@@ -1,5 +1,5 @@
 // The tables of an accepted schema's nodes, by their length, and the accessors to its nodes.
-#![tactic(auto)]
+#![tactic(auto, using(crate::proofs::Numbers::of_nodes))]
 
 ghost use Rattle.std.specs.Prelude.{◌≡◌, true, ◌<◌, length};
 ghost use Rattle.schema.specs.Schema.{most_nodes, schema_of, node_at, variable_at, is_number};
@@ -7,6 +7,7 @@ ghost use Rattle.schema.specs.declared.Variable.TheVariants.{Number};
 ghost use Rattle.schema.specs.Layout.{rank_count};
 ghost use Rattle.schema.specs.Table.{Accepted, NodeIn, AtMost, SuccessorIs};
 
+use fields::BigEndian;
 use schema::{MOST_NODES, NODE_SLOTS, Variable};
 
 // A table for any schema.
@@ -34,7 +35,7 @@ pub fn count_of(s: &[u8]) -> usize
     requires { Accepted s.now }
     ensures { AtMost most_nodes (length (schema_of s.now)) result }
 {
-    fields::wide(s[2])
+    usize::from(s[2])
 }
 
 // The number of node n's successors.
@@ -43,7 +44,7 @@ pub fn successor_count(s: &[u8], table: &[u16], n: usize) -> usize
     ensures { AtMost 8 (length (node_at (schema_of s.now) n).successors) result }
 {
     let at = table[NODE_SLOTS * n] as usize;
-    fields::wide(s[at + 3])
+    usize::from(s[at + 3])
 }
 
 // Node n's successor j.
@@ -53,7 +54,7 @@ pub fn successor_of(s: &[u8], table: &[u16], n: usize, j: usize) -> usize
     ensures { SuccessorIs (schema_of s.now) n j result }
 {
     let at = table[NODE_SLOTS * n] as usize;
-    fields::wide(s[at + 4 + j])
+    usize::from(s[at + 4 + j])
 }
 
 // The number of node n's variables.
@@ -81,8 +82,8 @@ pub fn variable_of(s: &[u8], table: &[u16], n: usize, k: usize) -> Variable
     let at = table[NODE_SLOTS * n + 1 + k] as usize;
     if s[at] == 0 {
         return Variable::Number {
-            lo: fields::i32_at(s, at + 1),
-            hi: fields::i32_at(s, at + 5),
+            lo: i32::get(s, at + 1),
+            hi: i32::get(s, at + 5),
         };
     }
     Variable::Listed { size: s[at + 1] }
@@ -96,7 +97,7 @@ pub fn bounds_of(s: &[u8], table: &[u16], n: usize, k: usize) -> Bounds
     ensures { Number result.lo result.hi ≡ variable_at (schema_of s.now) n k }
 {
     let at = table[NODE_SLOTS * n + 1 + k] as usize;
-    let lo = fields::i32_at(s, at + 1);
-    let hi = fields::i32_at(s, at + 5);
+    let lo = i32::get(s, at + 1);
+    let hi = i32::get(s, at + 5);
     Bounds { lo, hi }
 }

@@ -12,9 +12,10 @@ use lib.Dec.{leb, ltb, eqb}
 use lib.ListN.{length, get_or, length-append, get_or-append}
 use lib.Seq.{get_or-append-add}
 use Rattle.fields.specs.Reading.{Got, got, bad, part, be, whole, field, mark}
-use Rattle.fields.proofs.Reading.{whole-got}
+use Rattle.fields.proofs.Reading.{whole_got}
 use Rattle.fields.proofs.Bytes.{be-same}
-use Rattle.lines.specs.Record.{Pass, PS, pass_at}
+use Rattle.lines.specs.Record.{PS, pass_at}
+use Rattle.lines.specs.declared.Days.{Days}
 use Rattle.lines.specs.Line.{bad_line_of}
 use Rattle.calls.specs.Program.{line_for, ends, lines_at, last_at}
 
@@ -26,17 +27,17 @@ module _ (s t : List ℕ) where
 
   whole-first : (w p : ℕ) → p + w ≤ length s → whole w (s ++ t) p ≡ whole w s p
   whole-first w p h =
-      whole-got w (s ++ t) p (omega (arith, length-append s t)) ∙ ap (λ (v : ℕ). got v (p + w)) (be-first w p h) ∙ sym (whole-got w s p h)
+      whole_got w (s ++ t) p (omega (arith, length-append s t)) ∙ ap (λ (v : ℕ). got v (p + w)) (be-first w p h) ∙ sym (whole_got w s p h)
 
   pass-first : (p : ℕ) → p + 6 ≤ length s → pass_at (s ++ t) p ≡ pass_at s p
   unfolding pass_at mark field part
   pass-first p h =
-      rw (whole-first 2 p (omega arith), whole-got 2 s p (omega arith)) (go (eqb (be 2 s p) (be 2 PS 0)))
+      rw (whole-first 2 p (omega arith), whole_got 2 s p (omega arith)) (go (eqb (be 2 s p) (be 2 PS 0)))
     where
-      go : (b : Bool) → ◌≡◌ {A = Got Pass}
-          (part (cond b (got (be 2 s p) (p + 2)) (bad 1 p)) λ _ p. part (whole 2 (s ++ t) p) λ a p. part (whole 2 (s ++ t) p) λ b p. got (record { first = a; last = b }) p)
-          (part (cond b (got (be 2 s p) (p + 2)) (bad 1 p)) λ _ p. part (whole 2 s p) λ a p. part (whole 2 s p) λ b p. got (record { first = a; last = b }) p)
-      go true = rw (whole-first 2 (p + 2) (omega arith), whole-got 2 s (p + 2) (omega arith), whole-first 2 (p + 2 + 2) (omega arith))
+      go : (b : Bool) → ◌≡◌ {A = Got Days}
+          (part (cond b (got (be 2 s p) (p + 2)) (bad 1 p)) λ _ p. part (whole 2 (s ++ t) p) λ a p. part (whole 2 (s ++ t) p) λ b p. got (record { a = a; b = b }) p)
+          (part (cond b (got (be 2 s p) (p + 2)) (bad 1 p)) λ _ p. part (whole 2 s p) λ a p. part (whole 2 s p) λ b p. got (record { a = a; b = b }) p)
+      go true = rw (whole-first 2 (p + 2) (omega arith), whole_got 2 s (p + 2) (omega arith), whole-first 2 (p + 2 + 2) (omega arith))
       go false = refl
 
   -- ---- a reading beyond it
@@ -71,8 +72,8 @@ module _ (s t : List ℕ) where
       ∙ ap (λ (g : Got ℕ). part g (after (s ++ t))) (part-beyond (whole 2 t p) _ (λ v q. cond (eqb v (be 2 PS 0)) (got v q) (bad 1 p)) (λ v q. letters (eqb v (be 2 PS 0)) v q))
       ∙ part-beyond (part (whole 2 t p) (λ v q. cond (eqb v (be 2 PS 0)) (got v q) (bad 1 p))) (after (s ++ t)) (after t) (λ _ q. days q)
     where
-      after : List ℕ → ℕ → ℕ → Got Pass
-      after u _ p = part (whole 2 u p) λ a p. part (whole 2 u p) λ b p. got (record { first = a; last = b }) p
+      after : List ℕ → ℕ → ℕ → Got Days
+      after u _ p = part (whole 2 u p) λ a p. part (whole 2 u p) λ b p. got (record { a = a; b = b }) p
 
       letters : (b : Bool) (v q : ℕ) → cond b (got v (length s + q)) (bad 1 (length s + p)) ≡ beyond (cond b (got v q) (bad 1 p))
       letters true v q = refl
@@ -80,18 +81,18 @@ module _ (s t : List ℕ) where
 
       days : (q : ℕ) → after (s ++ t) 0 (length s + q) ≡ beyond (after t 0 q)
       days q =
-          ap (λ (g : Got ℕ). part g (λ a p. part (whole 2 (s ++ t) p) λ b p. got (record { first = a; last = b }) p)) (whole-beyond 2 q)
-          ∙ part-beyond (whole 2 t q) _ (λ a p. part (whole 2 t p) λ b p. got (record { first = a; last = b }) p) (λ a p.
-          ap (λ (g : Got ℕ). part g (λ b p. got (record { first = a; last = b }) p)) (whole-beyond 2 p) ∙ part-beyond (whole 2 t p) _ (λ b p. got (record { first = a; last = b }) p) (λ b p. refl))
+          ap (λ (g : Got ℕ). part g (λ a p. part (whole 2 (s ++ t) p) λ b p. got (record { a = a; b = b }) p)) (whole-beyond 2 q)
+          ∙ part-beyond (whole 2 t q) _ (λ a p. part (whole 2 t p) λ b p. got (record { a = a; b = b }) p) (λ a p.
+          ap (λ (g : Got ℕ). part g (λ b p. got (record { a = a; b = b }) p)) (whole-beyond 2 p) ∙ part-beyond (whole 2 t p) _ (λ b p. got (record { a = a; b = b }) p) (λ b p. refl))
 
   -- ---- the lines
 
-  line-beyond : (f p : List ℕ) (from : ℕ) (g : Got Pass) → line_for f p from (beyond g) ≡ line_for f p (from + length s) g
+  line-beyond : (f p : List ℕ) (from : ℕ) (g : Got Days) → line_for f p from (beyond g) ≡ line_for f p (from + length s) g
   unfolding line_for
   line-beyond f p from (got x q) = refl
   line-beyond f p from (bad n o) = ap (bad_line_of n) (let z : from + (length s + o) ≡ from + length s + o = omega arith in z)
 
-  ends-beyond : (g : Got Pass) → ends (beyond g) ≡ ends g
+  ends-beyond : (g : Got Days) → ends (beyond g) ≡ ends g
   unfolding ends
   ends-beyond (got x q) = refl
   ends-beyond (bad n o) = refl

@@ -1,55 +1,42 @@
 // Reads schema.bin, policies.bin and records PS of standard input, and prints a line for each.
 #![tactic(auto)]
 
-ghost use Rattle.std.specs.Prelude.{◌≡◌, ◌+◌, ◌*◌, ◌<◌, ◌≤◌, length, MatchResult};
+ghost use Rattle.std.specs.Prelude.{◌≡◌, ◌+◌, ◌*◌, ◌<◌, ◌≤◌, length, MatchResult, IfOk};
 ghost use Rattle.lines.specs.Line.{Laid};
 ghost use Rattle.instances.specs.File.{most_bytes};
 ghost use Rattle.calls.specs.Calls.{reconciling};
 ghost use Rattle.calls.specs.Program.{line_in};
-ghost use Rattle.passplan.specs.Program.{most_line, Answered, Printed, IsPrefixLen};
+ghost use Rattle.passplan.specs.Program.{most_line, most_records, Answered, Printed, IsPrefixLen};
 
 use instances::MOST_BYTES;
-use lines::PassRead;
+use lines::Days;
 use std::fs;
 use std::io::{ErrorKind, Read, Write};
+use std::ops::ControlFlow;
 use std::process::ExitCode;
 
-// Where the lines end, and whether the run ends there too.
-#[derive(Clone, Copy)]
-pub struct Place {
-    pub end: usize,
-    pub last: bool,
-}
-
 // The line of a pass, its instance by way of a buffer of 1,283 bytes.
+#[tactic(auto, using(crate::proofs::Printing::value_taken, crate::proofs::Printing::ok_fits))]
 fn put_pass(
     schema: &[u8],
     policies: &[u8],
-    a: u16,
-    b: u16,
+    days: Days,
     instance: &mut [u8],
     out: &mut [u8],
     to: usize,
 ) -> usize
     requires instance_len { length instance.old ≡ most_bytes }
     requires most_line_in_bounds { to + most_line ≤ length out.old }
-    ensures { Laid most_line out.old to (line_in a b (reconciling schema.now policies.now a b instance.old)) out.new result }
+    ensures { Laid most_line out.old to (line_in days.a days.b (reconciling schema.now policies.now days.a days.b instance.old)) out.new result }
 {
-    let answer = reconciler::reconcile(schema, policies, a, b, instance);
-    let n = answer.value;
-    lines::put_line(
-        out,
-        to,
-        a,
-        b,
-        answer.number,
-        answer.file,
-        answer.offset,
-        &instance[..n],
-    )
+    match reconciler::reconcile(schema, policies, days.a, days.b, instance) {
+        Ok(n) => lines::put_line(out, to, days, Ok(&instance[..n])),
+        Err(refusal) => lines::put_line(out, to, days, Err(refusal)),
+    }
 }
 
-// The line of the record at a place of s, which stands in the input from a place on.
+// The line of the record at a place of s, which stands in the input from a place on: where it ends, a Break if the run ends
+// with it.
 fn put_answer(
     schema: &[u8],
     policies: &[u8],
@@ -58,62 +45,48 @@ fn put_answer(
     from: u64,
     out: &mut [u8],
     to: usize,
-) -> Place
+) -> ControlFlow<usize, usize>
     requires at_bound { from + at + 4 < 18446744073709551616 }
     requires most_line_in_bounds { to + most_line ≤ length out.old }
     ensures { Answered schema.now policies.now from s.now at out.old to out.new result }
 {
     match lines::read_pass(s, at) {
-        PassRead::NoPass { number, offset } => {
-            let end = lines::put_bad_line(out, to, number, from + offset as u64);
-            Place { end, last: true }
+        Err(breach) => {
+            let offset = from + breach.offset as u64;
+            ControlFlow::Break(lines::put_bad_line(out, to, breach.fault, offset))
         }
-        PassRead::Days { a, b, next: _ } => {
+        Ok((days, _)) => {
             let mut instance = [0u8; MOST_BYTES];
-            let end = put_pass(schema, policies, a, b, &mut instance, out, to);
-            Place { end, last: false }
+            let end = put_pass(schema, policies, days, &mut instance, out, to);
+            ControlFlow::Continue(end)
         }
     }
 }
 
-// The lines of the records of s, at most so many, up to a bad one.
+// The bytes of a record, and how many records are read at once.
+const RECORD: usize = 6;
+
+const RECORDS: usize = 24;
+
+// The lines of the records of s, up to a bad one: where they end, a Break if the run ends with them.
+#[tactic(auto, using(crate::proofs::Printing::printing_init, crate::proofs::Printing::printing_room, crate::proofs::Printing::printing_exit))]
 fn put_lines(
     schema: &[u8],
     policies: &[u8],
     s: &[u8],
     from: u64,
-    most: usize,
     out: &mut [u8],
-) -> Place
+) -> ControlFlow<usize, usize>
     requires s_bound { from + length s.now + 4 < 18446744073709551616 }
-    requires most_in_bounds { most_line * most ≤ length out.old }
-    ensures { Printed schema.now policies.now from s.now most out.old out.new result }
+    requires s_len { length s.now ≤ 6 * most_records }
+    requires most_in_bounds { most_line * most_records ≤ length out.old }
+    ensures { Printed schema.now policies.now from s.now out.old out.new result }
 {
-    let mut left = most;
-    let mut at: usize = 0;
     let mut to: usize = 0;
-    while 0 < left {
-        if s.len() <= at {
-            return Place {
-                end: to,
-                last: false,
-            };
-        }
-        let said = put_answer(schema, policies, s, at, from, out, to);
-        to = said.end;
-        if said.last {
-            return Place {
-                end: to,
-                last: true,
-            };
-        }
-        at += 6;
-        left -= 1;
+    for at in (0..s.len()).step_by(RECORD) {
+        to = put_answer(schema, policies, s, at, from, out, to)?;
     }
-    Place {
-        end: to,
-        last: false,
-    }
+    ControlFlow::Continue(to)
 }
 
 // The bytes of each of the files, and of the lines, that there is room for.
@@ -125,36 +98,22 @@ fn fill<R: Read>(input: &mut R, b: &mut [u8]) -> Result<usize, usize>
 {
     let mut n: usize = 0;
     while n < b.len() {
-        match input.read(&mut b[n..]) {
-            Err(_) => return Err(n),
-            Ok(more) => {
-                if more == 0 {
-                    return Ok(n);
-                }
-                n += more;
-            }
+        let more = input.read(&mut b[n..]).map_err(|_| n)?;
+        if more == 0 {
+            break;
         }
+        n += more;
     }
     Ok(n)
 }
 
-// The first bytes of an open file, as many as b has room for, and how many there are: 0 where a read fails.
-fn read_file<R: Read>(file: &mut R, b: &mut [u8]) -> usize
-    ensures { IsPrefixLen result b.new }
-{
-    match fill(file, b) {
-        Err(_) => 0,
-        Ok(n) => n,
-    }
-}
-
-// The same of a file by its name: 0 where it is missing.
+// The first bytes of a file, as many as b has room for, and how many there are: 0 where it is missing or a read fails.
 fn load(rt: &HostRuntime, path: &str, b: &mut [u8]) -> usize
     ensures { IsPrefixLen result b.new }
 {
     match fs::open(rt, path) {
         Err(_) => 0,
-        Ok(mut file) => read_file(&mut file, b),
+        Ok(mut file) => fill(&mut file, b).unwrap_or(0),
     }
 }
 
@@ -163,115 +122,73 @@ fn read_full<R: Read>(input: &mut R, b: &mut [u8]) -> usize
     ensures { IsPrefixLen result b.new }
 {
     match fill(input, b) {
-        Err(n) => n,
-        Ok(n) => n,
+        Ok(n) | Err(n) => n,
     }
 }
 
-// One read: 0 where it fails.
-fn read_some<R: Read>(input: &mut R, b: &mut [u8]) -> usize
-    ensures { IsPrefixLen result b.new }
-{
-    match input.read(b) {
-        Err(_) => 0,
-        Ok(n) => n,
-    }
-}
-
-// What input is there, up to 24 records, the last one waited for; 0 at its end.
+// What input is there, up to 24 records, the last one waited for; 0 at its end, or where a read fails.
 fn read_records<R: Read>(input: &mut R, b: &mut [u8]) -> usize
     requires { length b.old ≡ 144 }
     ensures { IsPrefixLen result b.new }
 {
-    let n = read_some(input, b);
-    let over = n % 6;
+    let n = input.read(b).unwrap_or(0);
+    let over = n % RECORD;
     if over == 0 {
         return n;
     }
-    let end = n + (6 - over);
+    let end = n + (RECORD - over);
     let more = read_full(input, &mut b[n..end]);
     n + more
 }
 
-// What came of writing: all is written, a write failed, or nobody reads the output any more.
-#[derive(Clone, Copy)]
-enum Written {
-    All,
-    Failed,
-    Unread,
-}
-
-// A write that failed.
-fn failed(kind: ErrorKind) -> Written {
-    match kind {
-        ErrorKind::BrokenPipe => Written::Unread,
-        _ => Written::Failed,
-    }
-}
-
 // Writes all of b, or up to the first write that fails or takes nothing.
-fn write_out<W: Write>(output: &mut W, b: &[u8]) -> Written {
+fn write_out<W: Write>(output: &mut W, b: &[u8]) -> Result<(), ErrorKind> {
     let mut n: usize = 0;
     while n < b.len() {
-        match output.write(&b[n..]) {
-            Err(e) => return failed(e.kind()),
-            Ok(more) => {
-                if more == 0 {
-                    return Written::Failed;
-                }
-                n += more;
-            }
+        let more = output.write(&b[n..]).map_err(|e| e.kind())?;
+        if more == 0 {
+            return Err(ErrorKind::WriteZero);
         }
+        n += more;
     }
-    Written::All
+    Ok(())
 }
 
-// Answers what input is there, and how many bytes it had: 0 where the run ends; and whether nobody reads the lines any more.
+// Answers what input is there, and how many bytes it had: 0 where the run ends.
 fn turn(
     rt: &HostRuntime,
     schema: &[u8],
     policies: &[u8],
     from: u64,
     out: &mut [u8],
-    unread: &mut bool,
-) -> usize
+) -> Result<usize, ErrorKind>
     requires from_bound { from < 9223372036854775808 }
     requires out_len { length out.old ≡ 65536 }
-    ensures { result ≤ 144 }
+    ensures { IfOk result (λ n. n ≤ 144) }
 {
-    let mut input = [0u8; 144];
+    let mut input = [0u8; RECORD * RECORDS];
     let n = read_records(&mut rt.stdin(), &mut input);
-    let said = put_lines(schema, policies, &input[..n], from, 24, out);
-    let end = said.end;
-    match write_out(&mut rt.stdout(), &out[..end]) {
-        Written::All => {
-            if said.last {
-                return 0;
-            }
-            n
-        }
-        Written::Failed => 0,
-        Written::Unread => {
-            *unread = true;
-            0
-        }
-    }
+    let (end, read) = match put_lines(schema, policies, &input[..n], from, out) {
+        ControlFlow::Continue(end) => (end, n),
+        ControlFlow::Break(end) => (end, 0),
+    };
+    write_out(&mut rt.stdout(), &out[..end])?;
+    Ok(read)
 }
 
-// Offsets stay within 64 bits: no run gets as far as 2^63 bytes. Whether nobody reads the lines any more.
-fn run(rt: &HostRuntime, schema: &[u8], policies: &[u8], out: &mut [u8]) -> bool
+// Offsets stay within 64 bits: no run gets as far as 2^63 bytes.
+fn run(rt: &HostRuntime, schema: &[u8], policies: &[u8], out: &mut [u8]) -> Result<(), ErrorKind>
     requires { length out.old ≡ 65536 }
 {
-    let mut unread = false;
     let mut from: u64 = 0;
     while from < 9223372036854775808 {
-        let n = turn(rt, schema, policies, from, out, &mut unread);
+        let n = turn(rt, schema, policies, from, out)?;
         if n == 0 {
-            return unread;
+            break;
         }
         from += n as u64;
     }
-    unread
+    Ok(())
 }
 
 // The status of a run that ends since nobody reads the lines any more: what a shell tells of the signal for that.
@@ -284,8 +201,8 @@ fn main(rt: HostRuntime) -> ExitCode {
     let mut p = [0u8; ROOM];
     let m = load(&rt, "policies.bin", &mut p);
     let mut out = [0u8; ROOM];
-    if run(&rt, &s[..n], &p[..m], &mut out) {
-        return ExitCode::from(UNREAD);
+    match run(&rt, &s[..n], &p[..m], &mut out) {
+        Err(ErrorKind::BrokenPipe) => ExitCode::from(UNREAD),
+        _ => ExitCode::SUCCESS,
     }
-    ExitCode::SUCCESS
 }

@@ -65,7 +65,7 @@ module _ (s : List ℕ) (qs : List Policy) (eligible bits : List ℕ) {feasible 
   root_is q = sym (w.known 0 (omega arith) A.some) ∙ sym e ∙ q
 
   pub answer-eligible : b ≡ true → Eligible s qs eligible
-  answer-eligible q = record { root = root_is q; some-nodes = A.some; each = λ m h. w.eligible-is m (omega arith) h; room = w.eligible-room }
+  answer-eligible q = record { root = root_is q; some-nodes = A.some; each = λ m h. w.eligible-is m (omega arith) h; room = w.eligible_room }
 
   -- the root is feasible
   pub plans-some : (choices : List ℕ) {nodes : ℕ} → b ≡ true → Reached g qs choices nodes → Plans g (reconciled g qs) choices bits (Feasible nodes)

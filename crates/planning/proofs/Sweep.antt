@@ -60,7 +60,7 @@ sweep-init schema qs eligible bits m l r =
       eligible-is = λ i a b. absurd (omega (arith, m.is));
       values = λ i a b. absurd (omega (arith, m.is));
       blank = λ i a. no-bit i;
-      eligible-room = l;
+      eligible_room = l;
       bits-room = r;
     }
 
@@ -103,7 +103,7 @@ module _ (schema : List ℕ) (qs : List Policy) (n feasible : ℕ) (eligible₀ 
         eligible-is = λ m i j t. eligible-is m i j t (dec_lt (n - 1) m);
         values = λ m i j t. values m i j t (dec_lt (n - 1) m);
         blank = λ m i. e m (λ y. omega arith) ∙ w.blank m (omega arith);
-        eligible-room = record { long = omega (arith, q.eligible-long, w.eligible-room.long) };
+        eligible_room = record { long = omega (arith, q.eligible-long, w.eligible_room.long) };
         bits-room = record { long = omega (arith, q.long, w.bits-room.long) };
       }
     where

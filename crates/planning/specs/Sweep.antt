@@ -67,7 +67,7 @@ pub record Swept (schema : List ℕ) (qs : List Policy) (n feasible : ℕ) (elig
   pub values : (m : ℕ) → n ≤ m → m < length (schema_of schema) → can (schema_of schema) (rules_of (schema_of schema) qs) m ≡ true
       → values_from (node_at (schema_of schema) m).variables bits (values_slot m) ≡ Option.get_or ((rules_of (schema_of schema) qs).least m) []
   pub blank : (m : ℕ) → m < n → bit feasible m ≡ false
-  pub eligible-room : EligibleRoom schema eligible
+  pub eligible_room : EligibleRoom schema eligible
   pub bits-room : BitsRoom schema bits
 
 -- the root is feasible, and the table has the eligible successors of each feasible node that chooses

@@ -8,7 +8,7 @@ use native.Mathlib.Nat.{add-zero}
 use lib.ListN.{length, get_or, drop, length-drop}
 use lib.Seq.{get_or-drop, drop-drop}
 use Rattle.fields.specs.Reading.{got, part, be, field, many}
-use Rattle.fields.proofs.Reading.{whole-got}
+use Rattle.fields.proofs.Reading.{whole_got}
 use Rattle.fields.proofs.Back.{be1}
 use Rattle.fields.proofs.Bytes.{be-same}
 use Rattle.schema.specs.Schema.{Node, node_at}
@@ -27,8 +27,8 @@ unfolding condition condition_width part field
 condition-there s (Number lo hi) p {c} h =
     let i = h.inside in
     let z : p + 4 + 4 ≡ p + 8 = omega arith in
-    rw (h.is, whole-got 4 s p (omega arith), whole-got 4 s (p + 4) (omega arith), z)
-condition-there s (Listed size) p h = rw (h.is, whole-got 4 s p h.inside, h.within)
+    rw (h.is, whole_got 4 s p (omega arith), whole_got 4 s (p + 4) (omega arith), z)
+condition-there s (Listed size) p h = rw (h.is, whole_got 4 s p h.inside, h.within)
 
 conditions-there : {s : List ℕ} {p : ℕ} {vs : List Variable} {cs : List Condition} → ConditionsAt s p vs cs → (q : ℕ) × (conditions s vs p ≡ got cs q)
 unfolding conditions part
@@ -48,7 +48,7 @@ ranks-there s p (r ∷ rs) w =
       inside = λ h. omega arith;
       each = λ k h. w.each (suc k) (omega arith) ∙ ap (λ (j : ℕ). get_or s j 0) (let z : p + suc k ≡ p + 1 + k = omega arith in z);
     }) in
-    rw (whole-got 1 s p (omega arith), e, t, z)
+    rw (whole_got 1 s p (omega arith), e, t, z)
 
 pub rule-there : (s : List ℕ) (y : Node) (n p : ℕ) (x : Rule) → x.node ≡ n → length x.ranks ≡ rank_count y → RanksAt s p x.ranks
     → ConditionsAt s (p + length x.ranks) y.variables x.conditions → (q : ℕ) × (rule_of s y n p ≡ got x q)

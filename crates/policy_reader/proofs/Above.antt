@@ -5,31 +5,28 @@ use mathlib.Core.List.{List}
 use Prim.Native.Nat.{ℕ}
 use native.Mathlib.Omega.{arith}
 use lib.ListN.{length}
+use Rattle.std.specs.Prelude.{Result}
 use Rattle.fields.specs.Reading.{Got, got, bad}
-use Rattle.fields.specs.Answers.{step_of}
-use Rattle.fields.specs.declared.Step.{Step}
-use Rattle.fields.specs.declared.Step.TheVariants.{Next, Bad}
+use Rattle.fields.specs.Answers.{as_end, end_of}
+use Rattle.fields.specs.declared.Breach.{Breach}
+use Rattle.fields.proofs.Reading.{stopped}
 use Rattle.schema.specs.Schema.{schema_of}
 use Rattle.policies.specs.Policies.{Policy, policies, policies_in, policies_of}
 use Rattle.policies.specs.Pass.{in_force}
 use Rattle.policies.specs.Rows.{rows_of}
 use Rattle.policy_reader.specs.Answers.{YieldsPolicies}
 
-read_next : (r : Got (List Policy)) {q : ℕ} → Next q ≡ step_of r → r ≡ got (policies_in r) q
+read_next : (r : Got (List Policy)) {q : ℕ} → got tt q ≡ end_of r → r ≡ got (policies_in r) q
 read_next (got ps p) e = cc
 read_next (bad m o) e = absurd (let z : ◌≡◌ {A = ℕ} 0 1 = cc in omega arith)
 
-read-bad : (r : Got (List Policy)) {m o : ℕ} → Bad m o ≡ step_of r → r ≡ bad m o
-read-bad (got ps p) e = absurd (let z : ◌≡◌ {A = ℕ} 0 1 = cc in omega arith)
-read-bad (bad m o) e = cc
-
-module _ (schema p : List ℕ) (a b : ℕ) (t : List ℕ) {f : Step} (w : YieldsPolicies schema p a b f t) where
-  pub accepted-policies : {q : ℕ} → f ≡ Next q → policies (schema_of schema) p ≡ got (policies_of (schema_of schema) p) q
+module _ (schema p : List ℕ) (a b : ℕ) (t : List ℕ) (f : Result ℕ Breach) (w : YieldsPolicies schema p a b f t) where
+  pub accepted_policies : {q : ℕ} → as_end f ≡ got tt q → policies (schema_of schema) p ≡ got (policies_of (schema_of schema) p) q
   unfolding policies_of
-  accepted-policies e = read_next (policies (schema_of schema) p) (sym e ∙ w.answer)
+  accepted_policies e = read_next (policies (schema_of schema) p) (sym e ∙ w.answer)
 
-  pub rows-in-force : {q : ℕ} → f ≡ Next q → t ≡ rows_of (in_force a b) (length t) (policies_of (schema_of schema) p)
-  rows-in-force {q} e = w.rows (policies_of (schema_of schema) p) q (accepted-policies e)
+  pub rows_in_force : {q : ℕ} → as_end f ≡ got tt q → t ≡ rows_of (in_force a b) (length t) (policies_of (schema_of schema) p)
+  rows_in_force {q} e = w.rows (policies_of (schema_of schema) p) q (accepted_policies e)
 
-  pub refused-policies : {m o : ℕ} → f ≡ Bad m o → policies (schema_of schema) p ≡ bad m o
-  refused-policies e = read-bad (policies (schema_of schema) p) (sym e ∙ w.answer)
+  pub refused_policies : {m o : ℕ} → as_end f ≡ bad m o → policies (schema_of schema) p ≡ bad m o
+  refused_policies e = stopped (policies (schema_of schema) p) (sym e ∙ w.answer)

@@ -12,9 +12,8 @@ use lib.Dec.{leb, eqb}
 use mir.Val.{Fits}
 use mir.Syntax.{w64}
 use Rattle.fields.specs.Reading.{got, part, be, whole, field, many, signed}
-use Rattle.fields.specs.Answers.{step_of}
-use Rattle.fields.specs.declared.Step.TheVariants.{Next}
-use Rattle.fields.proofs.Reading.{whole-got}
+use Rattle.fields.specs.Answers.{end_of}
+use Rattle.fields.proofs.Reading.{whole_got}
 use Rattle.fields.proofs.Tests.{and-true, and_no, and_yes, or_yes}
 use Rattle.numbers.proofs.Bits.{part-size, spare-within}
 use Rattle.schema.specs.Schema.{Node, schema_of, node_at, no_variable}
@@ -41,7 +40,7 @@ ranks-there s zero p h = ([], ap (got []) (sym (add-zero p)))
 ranks-there s (suc k) p h =
     let r = ranks-there s k (p + 1) (omega arith) in
     let e : p + 1 + k ≡ p + suc k = omega arith in
-    (be 1 s p ∷ r.0, rw (whole-got 1 s p (omega arith), r.1) (ap (got (be 1 s p ∷ r.0)) e))
+    (be 1 s p ∷ r.0, rw (whole_got 1 s p (omega arith), r.1) (ap (got (be 1 s p ∷ r.0)) e))
 
 -- a mask that fits
 abbrev Fit : List ℕ → ℕ → Variable → Type 0
@@ -53,9 +52,9 @@ unfolding condition field part span
 condition-there s (Number lo hi) p h m =
     let e : p + 4 + 4 ≡ p + 8 = omega arith in (
       range (signed (be 4 s p)) (signed (be 4 s (p + 4))),
-      rw (whole-got 4 s p (omega arith), whole-got 4 s (p + 4) (omega arith)) (ap (got (range (signed (be 4 s p)) (signed (be 4 s (p + 4))))) e),
+      rw (whole_got 4 s p (omega arith), whole_got 4 s (p + 4) (omega arith)) (ap (got (range (signed (be 4 s p)) (signed (be 4 s (p + 4))))) e),
     )
-condition-there s (Listed size) p h m = (mask (be 4 s p), rw (whole-got 4 s p h, lt-ltb (be 4 s p) (2 ^ size) m))
+condition-there s (Listed size) p h m = (mask (be 4 s p), rw (whole_got 4 s p h, lt-ltb (be 4 s p) (2 ^ size) m))
 
 conditions-there : (s : List ℕ) (vs : List Variable) (p : ℕ) → p + spans (length vs) vs ≤ length s
     → ((k : ℕ) → k < length vs → Fit s (p + spans k vs) (get_or vs k no_variable)) → (cs : List Condition) × (conditions s vs p ≡ got cs (p + spans (length vs) vs))
@@ -71,13 +70,13 @@ conditions-there s (v ∷ vs) p h m =
     next k f = let e : p + span v + spans k vs ≡ p + (span v + spans k vs) = omega arith in rw e f
 
 body-there : (s : List ℕ) (x : Node) (n p : ℕ) → p + body_width x ≤ length s
-    → ((k : ℕ) → k < length x.variables → Fit s (p + offset_of x k) (get_or x.variables k no_variable)) → Next (p + body_width x) ≡ step_of (rule_of s x n p)
+    → ((k : ℕ) → k < length x.variables → Fit s (p + offset_of x k) (get_or x.variables k no_variable)) → got tt (p + body_width x) ≡ end_of (rule_of s x n p)
 unfolding body_width offset_of rule_of ranks part
 body-there s x n p h m =
     let r = ranks-there s (rank_count x) p (omega arith) in
     let c = conditions-there s x.variables (p + rank_count x) (omega arith) (λ k l. next k (m k l)) in
     let e : p + rank_count x + spans (length x.variables) x.variables ≡ p + (rank_count x + spans (length x.variables) x.variables) = omega arith in
-    rw (r.1, c.1) (ap Next (sym e))
+    rw (r.1, c.1) (ap (got tt) (sym e))
   where
     next : (k : ℕ) → Fit s (p + (rank_count x + spans k x.variables)) (get_or x.variables k no_variable)
         → Fit s (p + rank_count x + spans k x.variables) (get_or x.variables k no_variable)
@@ -184,13 +183,13 @@ module _ (schema t : List ℕ) (n : ℕ) (w : Laid (schema_of schema) t) (b : n 
       }
 
   -- a PN that passes is read to its end
-  pub good-read : (s : List ℕ) (p : ℕ) → is_good t s n p ≡ true → p ≤ length s → Next (p + get_or t (16 * n + 5) 0) ≡ step_of (rule_of s node n (p + 3))
+  pub good-read : (s : List ℕ) (p : ℕ) → is_good t s n p ≡ true → p ≤ length s → got tt (p + get_or t (16 * n + 5) 0) ≡ end_of (rule_of s node n (p + 3))
   unfolding is_good offset_of
   good-read s p e l =
       let both = and-true (is_whole s (get_or t (16 * n + 5) 0) p) (eqb (get_or t (16 * n + 6) 0) 0 || masks_fit t s n (p + 3)) e in
       let i = (whole-inside s (get_or t (16 * n + 5) 0) p both.0).0 in
       let q : p + get_or t (16 * n + 5) 0 ≡ p + 3 + body_width node = omega (arith, width_is) in
-      ap Next q ∙ body-there s node n (p + 3) (omega (arith, width_is)) (fits (eqb (get_or t (16 * n + 6) 0) 0) refl both.1)
+      ap (got tt) q ∙ body-there s node n (p + 3) (omega (arith, width_is)) (fits (eqb (get_or t (16 * n + 6) 0) 0) refl both.1)
     where
       spared : (k : ℕ) → k < length node.variables → k < 4 → be 4 s (p + 3 + get_or t (16 * n + 8 + k) 0) * 2 ^ get_or t (16 * n + 12 + k) 0 < 2 ^ 32
           → Fit s (p + 3 + offset_of node k) (get_or node.variables k no_variable)

@@ -1,32 +1,28 @@
 -- What the reader's functions answer, and the rows that they fill.
 -- For the contracts of functions that no other crate calls.
-use Rattle.std.specs.Prelude.{ℕ, ◌+◌, ◌-◌, ◌≤◌, ◌<◌, ◌≡◌, Bool, true, false, cond, List, length, get_or, eqb}
+use Rattle.std.specs.Prelude.{ℕ, ◌+◌, ◌-◌, ◌≤◌, ◌<◌, ◌≡◌, Bool, true, false, Result, Ok, Err, Option, Some, None, List, length, get_or}
 use Rattle.fields.specs.Reading.{Got, got, bad}
-use Rattle.fields.specs.Runs.{Run, outcome, run_of}
-use Rattle.fields.specs.declared.Step.{Step}
-use Rattle.fields.specs.declared.Step.TheVariants.{Next, Bad}
+use Rattle.fields.specs.Answers.{number}
+use Rattle.fields.specs.Runs.{Run, did, refused, run_of}
+use Rattle.fields.specs.declared.Breach.{Breach}
 use Rattle.schema.specs.Schema.{Node}
 use Rattle.schema.specs.Layout.{length_slot}
-use Rattle.policies.specs.Policies.{Rule, Policy, Head, most_policies, rules, policies_from}
+use Rattle.policies.specs.Policies.{Rule, Policy, Head as PolicyHead, most_policies, rules, policies_from}
 use Rattle.policies.specs.Pass.{in_force}
 use Rattle.schema.specs.Table.{SchemaIn}
 use Rattle.policies.specs.Rows.{row_slot, note, note_rules, note_policy, note_policies}
 use Rattle.policy_reader.specs.Body.{is_next}
-use Rattle.policy_reader.specs.declared.HeadRead.{HeadRead}
-use Rattle.policy_reader.specs.declared.HeadRead.TheVariants.{Found, NoHead}
-use Rattle.policy_reader.specs.declared.Turn.{Turn}
-use Rattle.policy_reader.specs.declared.RuleRead.{RuleRead}
-use Rattle.policy_reader.specs.declared.RuleRead.TheVariants.{Named, NoRule}
+use Rattle.policy_reader.specs.declared.Head.{Head}
 
--- an answer that holds all of what was read, as that
-abbrev pub head_in : HeadRead → Got Head
-head_in (Found first last count q) = got (record { first = first; last = last; count = count }) q
-head_in (NoHead n o) = bad n o
+-- a head that was read, as the code has it
+abbrev pub head_read : Got PolicyHead → Got Head
+head_read (got h q) = got (record { first = h.first; last = h.last; count = h.count }) q
+head_read (bad n o) = bad n o
 
 -- a PN's node and the position after it
-abbrev pub rule_read : Got Rule → RuleRead
-rule_read (got x q) = Named x.node q
-rule_read (bad n o) = NoRule n o
+abbrev pub rule_read : Got Rule → Got ℕ
+rule_read (got x q) = got x.node q
+rule_read (bad n o) = bad n o
 
 -- ---- the rows
 
@@ -87,21 +83,18 @@ pub record Ready (s t : List ℕ) (count j : ℕ) (rows : List ℕ) : Type 0 whe
   pub long : row_slot count ≤ length rows
   pub few : (n : ℕ) → get_or rows (row_slot n) 0 ≤ j
 
+-- what is left from p on, after j policies, does to the rows t
+abbrev pub left_over : List Node → List ℕ → ℕ → ℕ → ℕ → ℕ → List ℕ → Run (List ℕ)
+left_over g s a b j p t = run_of (note_policies (in_force a b) p) (policies_from g s (most_policies - j) p) t
+
 -- what is left from p on, after j policies, makes X
 pub record Leaves (g : List Node) (s : List ℕ) (a b j p : ℕ) (t : List ℕ) (X : Run (List ℕ)) : Type 0 where
   pub upto : j ≤ most_policies
   pub few : (n : ℕ) → get_or t (row_slot n) 0 ≤ j
-  pub left : run_of (note_policies (in_force a b) p) (policies_from g s (most_policies - j) p) t ≡ X
+  pub left : left_over g s a b j p t ≡ X
 
--- a turn after which there is none, with its number
-abbrev pub last_turn : ℕ → ℕ → Turn
-last_turn n p = record { more = false; number = n; at = p }
-
--- the answer of a last turn
-abbrev pub end_of : Turn → Step
-end_of r = cond (eqb r.number 0) (Next r.at) (Bad r.number r.at)
-
--- a turn, which made of the rows t the rows u: the rest makes what all did
-pub record Turned (g : List Node) (s : List ℕ) (a b j p : ℕ) (t : List ℕ) (r : Turn) (u : List ℕ) : Type 0 where
-  pub goes : (X : Run (List ℕ)) → Leaves g s a b j p t X → r.more ≡ true → Leaves g s a b (j + 1) r.at u X
-  pub ends : (X : Run (List ℕ)) → Leaves g s a b j p t X → r.more ≡ false → outcome (end_of r) u ≡ X
+-- a turn, which made of the rows t the rows u: it was the last one, or the rest makes what all would have
+abbrev pub Turned : List Node → List ℕ → ℕ → ℕ → ℕ → ℕ → List ℕ → Result (Option ℕ) Breach → List ℕ → Type 0
+Turned g s a b j p t (Ok (Some q)) u = Leaves g s a b (j + 1) q u (left_over g s a b j p t)
+Turned g s a b j p t (Ok None) u = did p u ≡ left_over g s a b j p t
+Turned g s a b j p t (Err e) u = refused (number e.fault) e.offset ≡ left_over g s a b j p t

@@ -1,41 +1,29 @@
 // The reader of policies files.
 #![tactic(auto)]
 
-ghost use Rattle.std.specs.Prelude.{◌≡◌, ◌&&◌, ◌+◌, ◌*◌, ◌^◌, ◌<◌, ◌≤◌, length, drop, eqb, leb};
+ghost use Rattle.std.specs.Prelude.{◌≡◌, ◌&&◌, ◌+◌, ◌^◌, ◌<◌, ◌≤◌, length, drop, eqb, leb};
 ghost use Rattle.fields.specs.Reading.{be};
+ghost use Rattle.fields.specs.Answers.{as_got};
 ghost use Rattle.fields.specs.Runs.{outcome, run_of};
 ghost use Rattle.schema.specs.Schema.{schema_of};
 ghost use Rattle.policies.specs.Policies.{rule, head, policy};
 ghost use Rattle.schema.specs.Table.{SchemaIn};
 ghost use Rattle.policies.specs.Rows.{RowsRoom};
 ghost use Rattle.policy_reader.specs.Body.{excess_of, masks_fit, Looking, is_whole, is_good, is_next, Shape, Shapes};
-ghost use Rattle.policy_reader.specs.Runs.{head_in, rule_read, note_if, note_in_force, left_of, Room, Open, Row, RowEnd, Ready, last_turn, Turned, end_of};
+ghost use Rattle.policy_reader.specs.Runs.{head_read, rule_read, note_if, note_in_force, left_of, Room, Open, Row, RowEnd, Ready, Turned};
 ghost use Rattle.policy_reader.specs.Answers.{YieldsPolicies};
 
-use fields::{Field, Step};
+use fields::{BigEndian, Breach, Fault};
 use policies::{MOST_POLICIES, ROW_SLOTS};
+use reading::{read, read_mark};
 use schema::NODE_SLOTS;
 
-// A policy's head and the position after it, or a breach.
+// A policy's head: its days, and how many PN follow.
 #[derive(Clone, Copy)]
-enum HeadRead {
-    Found {
-        first: u32,
-        last: u32,
-        count: u32,
-        next: usize,
-    },
-    NoHead {
-        number: u8,
-        offset: usize,
-    },
-}
-
-// A PN's node and the position after it, or a breach.
-#[derive(Clone, Copy)]
-enum RuleRead {
-    Named { node: usize, next: usize },
-    NoRule { number: u8, offset: usize },
+struct Head {
+    first: u16,
+    last: u16,
+    count: u8,
 }
 
 // How far the PN of a policy were read: the lowest node that may follow, and the position.
@@ -45,50 +33,19 @@ struct Progress {
     at: usize,
 }
 
-// The head of the policy that the slice begins with.
-fn read_head(b: &[u8]) -> HeadRead
-    ensures { head b.now ≡ head_in result }
+// The head of the policy that the slice begins with, and the position after it.
+#[tactic(auto, using(crate::proofs::File::head_bad, crate::proofs::File::head_ok), unfolding(fields::specs::Reading::part, fields::specs::Reading::field, policies::specs::Policies::head))]
+fn read_head(b: &[u8]) -> Result<(Head, usize), Breach>
+    ensures { as_got result ≡ head_read (head b.now) }
 {
-    match reading::read_mark(b, 0, b"PH") {
-        Step::Bad { number, offset } => HeadRead::NoHead { number, offset },
-        Step::Next { at } => match reading::read_u16(b, at) {
-            Field::Cut { number, offset } => HeadRead::NoHead { number, offset },
-            Field::Value {
-                value: first,
-                next: at,
-            } => match reading::read_u16(b, at) {
-                Field::Cut { number, offset } => HeadRead::NoHead { number, offset },
-                Field::Value { value: last, next } => {
-                    if last < first {
-                        return HeadRead::NoHead {
-                            number: 9,
-                            offset: at,
-                        };
-                    }
-                    match reading::read_u8(b, next) {
-                        Field::Cut { number, offset } => HeadRead::NoHead { number, offset },
-                        Field::Value { value: count, next } => HeadRead::Found {
-                            first,
-                            last,
-                            count,
-                            next,
-                        },
-                    }
-                }
-            },
-        },
+    let at = read_mark(b, 0, b"PH")?;
+    let (first, at) = read::<u16>(b, at)?;
+    let (last, next) = read::<u16>(b, at)?;
+    if last < first {
+        return Err(Breach::new(Fault::Days, at));
     }
-}
-
-// The head of the policy that stands at a position; past the end stands what stands at the end.
-fn head_at(p: &[u8], at: usize) -> HeadRead
-    ensures { head (drop at p.now) ≡ head_in result }
-{
-    let end = p.len();
-    if at < end {
-        return read_head(&p[at..]);
-    }
-    read_head(&p[end..])
+    let (count, next) = read::<u8>(b, next)?;
+    Ok((Head { first, last, count }, next))
 }
 
 // The bits of a mask that no value of its variable has, as a number: that of node n's variable k, in a PN whose ranks begin at
@@ -100,7 +57,7 @@ fn excess(table: &[u16], n: usize, k: usize, b: &[u8], from: usize) -> u32
 {
     let skip = table[NODE_SLOTS * n + 8 + k] as usize;
     let spare = table[NODE_SLOTS * n + 12 + k];
-    numbers::highest(fields::u32_at(b, from + skip), spare)
+    numbers::highest(u32::get(b, from + skip), spare)
 }
 
 // Whether the masks of node n fit their variables, in a PN whose ranks begin at a position: all four at once, without a branch.
@@ -115,19 +72,12 @@ fn masks_good(table: &[u16], n: usize, b: &[u8], from: usize) -> bool
     (w + x) + (y + z) == 0
 }
 
-// Two bytes as one number, the first one low.
-fn pair(low: u8, high: u8) -> u32
-    ensures { (result ≡ high * 256 + low) × (low < 256) × (high < 256) }
-{
-    (high as u32) * 256 + (low as u32)
-}
-
 // Whether the letters of a mark stand at a position, compared at once.
 fn is_marked(b: &[u8], at: usize, m: &[u8; 2]) -> bool
     requires { at + 2 ≤ length b.now }
     ensures { result ≡ eqb (be 2 b.now at) (be 2 m.now 0) }
 {
-    pair(b[at], b[at + 1]) == pair(m[0], m[1])
+    u16::get(b, at) == u16::get(m, 0)
 }
 
 // Whether a PN of so many bytes stands at a position, by its length and its mark.
@@ -164,7 +114,7 @@ fn is_next(table: &[u16], n: usize, b: &[u8], at: usize) -> bool
     ensures { result ≡ is_next table.now b.now n at }
 {
     if is_whole(b, table[NODE_SLOTS * n + 5] as usize, at) {
-        if fields::wide(b[at + 2]) == n {
+        if usize::from(b[at + 2]) == n {
             if table[NODE_SLOTS * n + 6] == 0 {
                 return true;
             }
@@ -189,6 +139,7 @@ fn note_if(keep: bool, n: usize, offset: usize, rows: &mut [u16])
 
 // The PN of the nodes from 0 on that stand in a row: a loop of its own, in which the node is known before the PN is read, so
 // that one PN need not wait for the one before it.
+#[tactic(auto, using(crate::proofs::Rules::row_init, crate::proofs::Rules::row_all, crate::proofs::Rules::row_room, crate::proofs::Rules::row_shape, crate::proofs::Rules::row_end, crate::proofs::Rules::row_offset, crate::proofs::Rules::row_step))]
 fn take_row(
     table: &[u16],
     count: usize,
@@ -204,77 +155,65 @@ fn take_row(
     requires fact { Open count 0 rows.old }
     ensures { Row table.now b.now keep head from rows.old count result.low result.at rows.new }
 {
-    let mut low: usize = 0;
     let mut at = from;
-    while low < count {
-        if is_next(table, low, b, at) {
-            note_if(keep, low, head + at + 3, rows);
-            at += table[NODE_SLOTS * low + 5] as usize;
-            low += 1;
-        } else {
+    for low in 0..count {
+        if !is_next(table, low, b, at) {
             return Progress { low, at };
         }
+        note_if(keep, low, head + at + 3, rows);
+        at += table[NODE_SLOTS * low + 5] as usize;
     }
-    Progress { low, at }
+    Progress { low: count, at }
 }
 
-// A PN, of a node not below the lowest that may follow, field by field.
-fn read_rule(schema: &[u8], table: &[u16], count: usize, b: &[u8], from: Progress) -> RuleRead
+// A PN, of a node not below the lowest that may follow, field by field: its node, and the position after it.
+#[tactic(auto, using(crate::proofs::Rules::rule_bad, crate::proofs::Rules::node_in, crate::proofs::Rules::rule_low, crate::proofs::Rules::rule_high, crate::proofs::Rules::rule_refused, crate::proofs::Rules::rule_named), unfolding(fields::specs::Reading::part, fields::specs::Reading::field, policies::specs::Policies::rule))]
+fn read_rule(
+    schema: &[u8],
+    table: &[u16],
+    count: usize,
+    b: &[u8],
+    from: Progress,
+) -> Result<(usize, usize), Breach>
     requires { SchemaIn schema.now table.now count }
-    ensures { result ≡ rule_read (rule (schema_of schema.now) b.now from.low from.at) }
+    ensures { as_got result ≡ rule_read (rule (schema_of schema.now) b.now from.low from.at) }
 {
-    match reading::read_mark(b, from.at, b"PN") {
-        Step::Bad { number, offset } => RuleRead::NoRule { number, offset },
-        Step::Next { at } => match reading::read_u8(b, at) {
-            Field::Cut { number, offset } => RuleRead::NoRule { number, offset },
-            Field::Value { value, next: body } => {
-                let node = value as usize;
-                if node < from.low {
-                    return RuleRead::NoRule {
-                        number: 10,
-                        offset: at,
-                    };
-                }
-                if count <= node {
-                    return RuleRead::NoRule {
-                        number: 10,
-                        offset: at,
-                    };
-                }
-                match rule_reader::read_fields(schema, table, node, b, body) {
-                    Step::Bad { number, offset } => RuleRead::NoRule { number, offset },
-                    Step::Next { at: next } => RuleRead::Named { node, next },
-                }
-            }
-        },
+    let at = read_mark(b, from.at, b"PN")?;
+    let (node, body) = read::<u8>(b, at)?;
+    let node = usize::from(node);
+    if node < from.low || count <= node {
+        return Err(Breach::new(Fault::Node, at));
     }
+    let next = rule_reader::read_fields(schema, table, node, b, body)?;
+    Ok((node, next))
 }
 
 // The same, at once where it is plainly good.
-fn take_rule(schema: &[u8], table: &[u16], count: usize, b: &[u8], from: Progress) -> RuleRead
+#[tactic(auto, using(crate::proofs::Rules::take_shape, crate::proofs::Rules::good_rule, crate::proofs::Rules::good_end))]
+fn take_rule(
+    schema: &[u8],
+    table: &[u16],
+    count: usize,
+    b: &[u8],
+    from: Progress,
+) -> Result<(usize, usize), Breach>
     requires schema_in { SchemaIn schema.now table.now count }
     requires at_in_bounds { from.at ≤ length b.now }
-    ensures { result ≡ rule_read (rule (schema_of schema.now) b.now from.low from.at) }
+    ensures { as_got result ≡ rule_read (rule (schema_of schema.now) b.now from.low from.at) }
 {
     let at = from.at;
-    if b.len() - at < 3 {
-        return read_rule(schema, table, count, b, from);
-    }
-    let node = fields::wide(b[at + 2]);
-    if node < from.low {
-        return read_rule(schema, table, count, b, from);
-    }
-    if count <= node {
-        return read_rule(schema, table, count, b, from);
-    }
-    if is_good(table, node, b, at) {
-        let next = at + (table[NODE_SLOTS * node + 5] as usize);
-        return RuleRead::Named { node, next };
+    if 3 <= b.len() - at {
+        let node = usize::from(b[at + 2]);
+        if from.low <= node && node < count && is_good(table, node, b, at) {
+            let next = at + (table[NODE_SLOTS * node + 5] as usize);
+            return Ok((node, next));
+        }
     }
     read_rule(schema, table, count, b, from)
 }
 
 // The n PN of a policy from a position on, of nodes not below the lowest, noted if it is kept.
+#[tactic(auto, using(crate::proofs::Rules::rest_init, crate::proofs::Rules::rest_bad, crate::proofs::Rules::rest_step, crate::proofs::Rules::rest_room, crate::proofs::Rules::rest_offset, crate::proofs::Rules::rest_small, crate::proofs::Rules::rest_exit))]
 fn take_rest(
     schema: &[u8],
     table: &[u16],
@@ -285,42 +224,34 @@ fn take_rest(
     from: Progress,
     keep: bool,
     rows: &mut [u16],
-) -> Step
+) -> Result<usize, Breach>
     requires schema_in { SchemaIn schema.now table.now count }
     requires b_bound { head + length b.now < 2 ^ 64 }
     requires at_in_bounds { from.at ≤ length b.now }
     requires fact { Open count from.low rows.old }
     ensures { outcome result rows.new ≡ left_of (schema_of schema.now) b.now keep head n from.low from.at rows.old }
 {
-    let mut left = n;
     let mut row = from;
-    while 0 < left {
-        match take_rule(schema, table, count, b, row) {
-            RuleRead::NoRule { number, offset } => {
-                return Step::Bad { number, offset };
-            }
-            RuleRead::Named { node, next } => {
-                note_if(keep, node, head + row.at + 3, rows);
-                row.low = node + 1;
-                row.at = next;
-                left -= 1;
-            }
-        }
+    for _turn in 0..n {
+        let (node, next) = take_rule(schema, table, count, b, row)?;
+        note_if(keep, node, head + row.at + 3, rows);
+        row = Progress {
+            low: node + 1,
+            at: next,
+        };
     }
-    Step::Next { at: row.at }
+    Ok(row.at)
 }
 
 // The node up to which n PN may stand in a row: where there is one for each node, all do.
 fn row_end(n: usize, count: usize) -> usize
     ensures { RowEnd n count result }
 {
-    if n == count {
-        return count;
-    }
-    0
+    if n == count { count } else { 0 }
 }
 
 // The n PN of a policy, noted if it is kept. As a rule there is one for each node: then they stand in a row.
+#[tactic(auto, using(crate::proofs::Rules::shapes_end, crate::proofs::Rules::open_end, crate::proofs::Rules::row_open, crate::proofs::Rules::rules_row))]
 fn read_rules(
     schema: &[u8],
     table: &[u16],
@@ -331,7 +262,7 @@ fn read_rules(
     from: usize,
     keep: bool,
     rows: &mut [u16],
-) -> Step
+) -> Result<usize, Breach>
     requires schema_in { SchemaIn schema.now table.now count }
     requires b_bound { head + length b.now < 2 ^ 64 }
     requires from_in_bounds { from ≤ length b.now }
@@ -343,16 +274,14 @@ fn read_rules(
 }
 
 // Whether a policy of these days is in force in the pass from a to b.
-fn is_in_force(first: u32, last: u32, a: u16, b: u16) -> bool
+fn is_in_force(first: u16, last: u16, a: u16, b: u16) -> bool
     ensures { result ≡ (leb first b && leb a last) }
 {
-    if (b as u32) < first {
-        return false;
-    }
-    (a as u32) <= last
+    first <= b && a <= last
 }
 
 // The policy whose head stands at an offset of the file, read on its own stretch, and noted if it is in force.
+#[tactic(auto, using(crate::proofs::File::policy_bad, crate::proofs::File::policy_rules, crate::proofs::File::rules_inside, crate::proofs::File::stretch_fits))]
 fn read_policy(
     schema: &[u8],
     table: &[u16],
@@ -362,55 +291,20 @@ fn read_policy(
     a: u16,
     b: u16,
     rows: &mut [u16],
-) -> Step
+) -> Result<usize, Breach>
     requires schema_in { SchemaIn schema.now table.now count }
     requires head_in_bounds { head ≤ length p.now }
     requires fact { Open count 0 rows.old }
     ensures { outcome result rows.new ≡ run_of (note_in_force a b head) (policy (schema_of schema.now) (drop head p.now)) rows.old }
 {
-    match head_at(p, head) {
-        HeadRead::NoHead { number, offset } => Step::Bad { number, offset },
-        HeadRead::Found {
-            first,
-            last,
-            count: n,
-            next,
-        } => {
-            let keep = is_in_force(first, last, a, b);
-            read_rules(
-                schema,
-                table,
-                count,
-                &p[head..],
-                head,
-                n as usize,
-                next,
-                keep,
-                rows,
-            )
-        }
-    }
+    let own = &p[head..];
+    let (h, next) = read_head(own)?;
+    let keep = is_in_force(h.first, h.last, a, b);
+    let n = usize::from(h.count);
+    read_rules(schema, table, count, own, head, n, next, keep, rows)
 }
 
-// A turn of the walker: whether there was another policy, and where it ends; else 0 and the end of the file, or a breach.
-#[derive(Clone, Copy)]
-struct Turn {
-    more: bool,
-    number: u8,
-    at: usize,
-}
-
-fn last_turn(number: u8, at: usize) -> Turn
-    ensures { result ≡ last_turn number at }
-{
-    Turn {
-        more: false,
-        number,
-        at,
-    }
-}
-
-// The turn at an offset of the file, after j policies.
+// The turn at an offset of the file, after j policies: the offset after one more, or none where the file ends.
 fn turn_at(
     schema: &[u8],
     table: &[u16],
@@ -421,36 +315,19 @@ fn turn_at(
     a: u16,
     b: u16,
     rows: &mut [u16],
-) -> Turn
+) -> Result<Option<usize>, Breach>
     requires { Ready schema.now table.now count j rows.old }
     ensures { Turned (schema_of schema.now) p.now a b j at rows.old result rows.new }
 {
     if p.len() <= at {
-        return last_turn(0, at);
+        return Ok(None);
     }
     if j == MOST_POLICIES {
-        return last_turn(8, at);
+        return Err(Breach::new(Fault::PolicyCount, at));
     }
     match read_policy(schema, table, count, p, at, a, b, rows) {
-        Step::Bad { number, offset } => last_turn(number, at + offset),
-        Step::Next { at: width } => Turn {
-            more: true,
-            number: 0,
-            at: at + width,
-        },
-    }
-}
-
-// The answer of the last turn.
-fn ended(t: Turn) -> Step
-    ensures { result ≡ end_of t }
-{
-    if t.number == 0 {
-        return Step::Next { at: t.at };
-    }
-    Step::Bad {
-        number: t.number,
-        offset: t.at,
+        Ok(width) => Ok(Some(at + width)),
+        Err(e) => Err(Breach::new(e.fault, at + e.offset)),
     }
 }
 
@@ -463,6 +340,7 @@ struct Walker<'a> {
 
 // The whole file, in turn with the pass from a to b: checked, and where it is accepted the rows note the policies in force.
 // A walker goes from head to head; what a turn does stands in a function of a slice and numbers.
+#[tactic(auto, using(crate::proofs::File::file_init, crate::proofs::File::turn_ready, crate::proofs::File::file_yields))]
 pub fn read_policies(
     schema: &[u8],
     table: &[u16],
@@ -471,19 +349,16 @@ pub fn read_policies(
     a: u16,
     b: u16,
     rows: &mut [u16],
-) -> Step
+) -> Result<usize, Breach>
     requires schema_in { SchemaIn schema.now table.now count }
     requires rows_room { RowsRoom schema.now rows.old }
     ensures { YieldsPolicies schema.now p.now a b result rows.new }
 {
     let mut w = Walker { bytes: p, at: 0 };
-    let mut j: usize = 0;
-    loop {
-        let t = turn_at(schema, table, count, w.bytes, w.at, j, a, b, rows);
-        if t.more {} else {
-            return ended(t);
-        }
-        w.at = t.at;
+    let mut j = 0;
+    while let Some(next) = turn_at(schema, table, count, w.bytes, w.at, j, a, b, rows)? {
+        w.at = next;
         j += 1;
     }
+    Ok(w.at)
 }

@@ -10,11 +10,10 @@ use borrow.Author.Tests.{le-ltb, ltb-true, ltb-false}
 use lib.Dec.{ltb}
 use lib.ListN.{length}
 use Rattle.fields.specs.Writing.{Wrote}
-use Rattle.fields.specs.Answers.{success, refusal}
+use Rattle.fields.specs.Answers.{Answer, success, refusal}
 use Rattle.fields.specs.Outcomes.{Did}
-use Rattle.fields.specs.declared.Answer.{Answer}
 use Rattle.fields.proofs.Bytes.{Bytes}
-use Rattle.fields.proofs.Placed.{placed-short-did, placed-wrote-did}
+use Rattle.fields.proofs.Placed.{placed_short_did, placed_wrote_did}
 use Rattle.schema.specs.Schema.{Node, schema_of}
 use Rattle.schema.specs.Table.{Accepted, AtMost}
 use Rattle.schema.proofs.Accepted.{sound}
@@ -37,19 +36,19 @@ held-is g none choices bits w = ap (λ (x : Plan). held_by g x choices bits) w.a
 held-is g (some i) choices bits w = ap (λ (x : Plan). held_by g x choices bits) w.answer ∙ ap {B = Option (List Entry)} some (w.holds i refl)
 
 module _ (g : List Node) (o : Option (List Entry)) (choices bits : List ℕ) {plan : Plan} (w : Plans g o choices bits plan) where
-  pub plans-held : Plans g (held_by g plan choices bits) choices bits plan
-  plans-held = subst (λ (i : Option (List Entry)). Plans g i choices bits plan) (sym (held-is g o choices bits w)) w
+  pub plans_held : Plans g (held_by g plan choices bits) choices bits plan
+  plans_held = subst (λ (i : Option (List Entry)). Plans g i choices bits plan) (sym (held-is g o choices bits w)) w
 
-  pub did-held : (out : List ℕ) {r : Answer} {after : List ℕ} → Did (given g out (held_by g plan choices bits)) r after → Did (given g out o) r after
-  did-held out {r} {after} d = subst (λ (i : Option (List Entry)). Did (given g out i) r after) (held-is g o choices bits w) d
+  pub did_held : (out : List ℕ) {r : Answer} {after : List ℕ} → Did (given g out (held_by g plan choices bits)) r after → Did (given g out o) r after
+  did_held out {r} {after} d = subst (λ (i : Option (List Entry)). Did (given g out i) r after) (held-is g o choices bits w) d
 
-pub no-instance : (g : List Node) (choices bits out : List ℕ) {plan : Plan} {r : Answer} → plan ≡ Infeasible → r ≡ refusal 13 0 0 → Did (given g out (held_by g plan choices bits)) r out
+pub no_instance : (g : List Node) (choices bits out : List ℕ) {plan : Plan} → plan ≡ Infeasible → Did (given g out (held_by g plan choices bits)) (refusal 13 0 0) out
 unfolding given held_by
-no-instance g choices bits out e i = rw e (record { answer = i; buffer = refl })
+no_instance g choices bits out e = rw e (record { answer = refl; buffer = refl })
 
 -- so many bytes, or fewer than the room
-pub room-less : (s : List ℕ) (nodes room : ℕ) {long : ℕ} → AtMost most_bytes (file_length (schema_of s) nodes) long → ltb room long ≡ ltb room (file_length (schema_of s) nodes)
-room-less s nodes room w = ap (ltb room) w.is
+pub room_less : (s : List ℕ) (nodes room : ℕ) {long : ℕ} → AtMost most_bytes (file_length (schema_of s) nodes) long → ltb room long ≡ ltb room (file_length (schema_of s) nodes)
+room_less s nodes room w = ap (ltb room) w.is
 
 -- room for the longest file is room for each
 pub room_most : (s : List ℕ) (nodes : ℕ) {room : ℕ} → Accepted s → Bytes s → most_bytes ≤ room → false ≡ ltb room (file_length (schema_of s) nodes)
@@ -62,23 +61,23 @@ module _ (s choices bits : List ℕ) {plan : Plan} {nodes : ℕ} (w : Plans (sch
   abbrev file : List ℕ
   file = encode g (planned g (plan_of g choices bits))
 
-  pub plan-nodes : nodes ≡ nodes_of (planned (schema_of s) (plan_of (schema_of s) choices bits))
+  pub plan_nodes : nodes ≡ nodes_of (planned (schema_of s) (plan_of (schema_of s) choices bits))
   unfolding held_by plan_for
-  plan-nodes = let z : Feasible nodes ≡ Feasible (nodes_of (planned g (plan_of g choices bits))) = sym e ∙ w.answer ∙ ap (λ (x : Plan). plan_for (held_by g x choices bits)) e in cc
+  plan_nodes = let z : Feasible nodes ≡ Feasible (nodes_of (planned g (plan_of g choices bits))) = sym e ∙ w.answer ∙ ap (λ (x : Plan). plan_for (held_by g x choices bits)) e in cc
 
   module _ (a : Accepted s) (x : Bytes s) where
     long-is : file_length g nodes ≡ length file
-    long-is = ap (file_length g) plan-nodes ∙ file-length-is g (sound s x a.some).few choices bits
+    long-is = ap (file_length g) plan_nodes ∙ file-length-is g (sound s x a.some).few choices bits
 
     module _ (out : List ℕ) {t : Bool} (d : t ≡ ltb (length out) (file_length (schema_of s) nodes)) where
-      pub plan-room : t ≡ false → length (encode (schema_of s) (planned (schema_of s) (plan_of (schema_of s) choices bits))) ≤ length out
-      plan-room h = omega (arith, long-is, ltb-false (length out) (file_length g nodes) (sym d ∙ h))
+      pub plan_room : t ≡ false → length (encode (schema_of s) (planned (schema_of s) (plan_of (schema_of s) choices bits))) ≤ length out
+      plan_room h = omega (arith, long-is, ltb-false (length out) (file_length g nodes) (sym d ∙ h))
 
-      pub plan-short : {r : Answer} → t ≡ true → r ≡ refusal 14 0 0 → Did (given (schema_of s) out (held_by (schema_of s) plan choices bits)) r out
+      pub plan_short : t ≡ true → Did (given (schema_of s) out (held_by (schema_of s) plan choices bits)) (refusal 14 0 0) out
       unfolding given held_by
-      plan-short h i = rw e (placed-short-did file out (omega (arith, long-is, ltb-true (length out) (file_length g nodes) (sym d ∙ h))) i)
+      plan_short h = rw e (placed_short_did file out (omega (arith, long-is, ltb-true (length out) (file_length g nodes) (sym d ∙ h))) refl)
 
-      pub plan-written : {after : List ℕ} {n : ℕ} {r : Answer} → t ≡ false → Wrote out 0 (encode (schema_of s) (planned (schema_of s) (plan_of (schema_of s) choices bits))) after n → r ≡ success n
-          → Did (given (schema_of s) out (held_by (schema_of s) plan choices bits)) r after
+      pub plan_written : {after : List ℕ} {n : ℕ} → t ≡ false → Wrote out 0 (encode (schema_of s) (planned (schema_of s) (plan_of (schema_of s) choices bits))) after n
+          → Did (given (schema_of s) out (held_by (schema_of s) plan choices bits)) (success n) after
       unfolding given held_by
-      plan-written h u i = rw e (placed-wrote-did file out (plan-room h) u i)
+      plan_written h u = rw e (placed_wrote_did file out (plan_room h) u refl)

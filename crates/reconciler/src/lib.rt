@@ -2,6 +2,7 @@
 #![tactic(auto)]
 
 ghost use Rattle.std.specs.Prelude.{◌≡◌, ◌≤◌, ltb};
+ghost use Rattle.fields.specs.Answers.{answer_of};
 ghost use Rattle.fields.specs.Outcomes.{Did};
 ghost use Rattle.schema.specs.Schema.{schema_of};
 ghost use Rattle.schema.specs.Table.{Accepted, Tabled, SetsIn, count_in};
@@ -12,8 +13,7 @@ ghost use Rattle.planning.specs.Plan.{Plans, file_length, EligibleRoom};
 ghost use Rattle.calls.specs.Calls.{given, reconciling};
 ghost use Rattle.reconciler.specs.Plan.{held_by};
 
-use fields::{Answer, Step};
-use inputs::Inputs;
+use fields::{Fault, File, Refusal};
 use instances::MOST_BYTES;
 use nodes::{FEW_NODES, FEW_TABLE_SLOTS, FEWEST_NODES, FEWEST_TABLE_SLOTS, TABLE_SLOTS};
 use planning::Plan;
@@ -21,6 +21,7 @@ use policies::ROW_SLOTS;
 use schema::{MOST_NODES, MOST_VARIABLES};
 
 // Whether so much room is less than the file of these nodes has bytes; room for the longest file is not.
+#[tactic(auto, using(crate::proofs::Writing::room_less))]
 fn is_short(schema: &[u8], table: &[u16], nodes: u64, room: usize) -> bool
     requires accepted { Accepted schema.now }
     requires tabled { Tabled schema.now table.now }
@@ -33,6 +34,7 @@ fn is_short(schema: &[u8], table: &[u16], nodes: u64, room: usize) -> bool
 }
 
 // The last rows: 13 where there is no instance, 14 where the buffer is shorter than its file, else the file.
+#[tactic(auto, using(crate::proofs::Writing::no_instance, crate::proofs::Writing::plan_nodes, crate::proofs::Writing::plan_room))]
 fn write_plan(
     schema: &[u8],
     table: &[u16],
@@ -40,20 +42,20 @@ fn write_plan(
     choices: &[u8; MOST_NODES],
     bits: &[u32],
     out: &mut [u8],
-) -> Answer
+) -> Result<usize, Refusal>
     requires accepted { Accepted schema.now }
     requires tabled { Tabled schema.now table.now }
     requires bits_room { BitsRoom schema.now bits.now }
     requires plans { Plans (schema_of schema.now) (held_by (schema_of schema.now) plan choices.now bits.now) choices.now bits.now plan }
-    ensures { Did (given (schema_of schema.now) out.old (held_by (schema_of schema.now) plan choices.now bits.now)) result out.new }
+    ensures { Did (given (schema_of schema.now) out.old (held_by (schema_of schema.now) plan choices.now bits.now)) (answer_of (λ n. n) result) out.new }
 {
     match plan {
-        Plan::Infeasible => fields::refusal(13, 0, 0),
+        Plan::Infeasible => Err(Refusal::new(Fault::NoInstance)),
         Plan::Feasible { nodes } => {
             if is_short(schema, table, nodes, out.len()) {
-                return fields::refusal(14, 0, 0);
+                return Err(Refusal::new(Fault::Buffer));
             }
-            fields::success(writer::write_planned(schema, table, nodes, choices, bits, out))
+            Ok(writer::write_planned(schema, table, nodes, choices, bits, out))
         }
     }
 }
@@ -68,14 +70,14 @@ fn in_force(
     eligible: &mut [u64],
     bits: &mut [u32],
     out: &mut [u8],
-) -> Answer
+) -> Result<usize, Refusal>
     requires accepted { Accepted schema.now }
     requires tabled { Tabled schema.now table.now }
     requires sets_in { SetsIn schema.now sets.now }
     requires noted { Noted schema.now p.now rows.now }
     requires eligible_room { EligibleRoom schema.now eligible.old }
     requires bits_room { BitsRoom schema.now bits.old }
-    ensures { Did (given (schema_of schema.now) out.old (reconciled (schema_of schema.now) (noted (schema_of schema.now) p.now rows.now))) result out.new }
+    ensures { Did (given (schema_of schema.now) out.old (reconciled (schema_of schema.now) (noted (schema_of schema.now) p.now rows.now))) (answer_of (λ n. n) result) out.new }
 {
     let mut choices = [255u8; MOST_NODES];
     let plan = planning::plan_for(schema, table, sets, p, rows, eligible, &mut choices, bits);
@@ -84,104 +86,89 @@ fn in_force(
 
 // Schema, policies and pass, then the instance, with tables for the fewest nodes. Each size has a function of its own,
 // called once, so that the compiler makes it part of its caller.
-fn with_fewest(schema: &[u8], p: &[u8], a: u16, b: u16, out: &mut [u8]) -> Answer
+#[tactic(auto, using(instances::proofs::Slots::bits_4, inputs::proofs::Above::rows_4, crate::proofs::Reading::counted, crate::proofs::Reading::eligible_room, calls::proofs::Inputs::schema_bad_did), unfolding(calls::specs::Calls::reconciling))]
+fn with_fewest(schema: &[u8], p: &[u8], a: u16, b: u16, out: &mut [u8]) -> Result<usize, Refusal>
     requires { count_in schema.now ≤ 4 }
-    ensures { Did (reconciling schema.now p.now a b out.old) result out.new }
+    ensures { Did (reconciling schema.now p.now a b out.old) (answer_of (λ n. n) result) out.new }
 {
     let mut table = [0u16; FEWEST_TABLE_SLOTS];
     let mut sets = [0u64; FEWEST_NODES];
-    match schema::read_schema(schema, &mut table, &mut sets) {
-        Step::Bad { number, offset } => fields::refusal(number, 1, offset),
-        Step::Next { at: _ } => {
-            let mut rows = [0u16; ROW_SLOTS * FEWEST_NODES];
-            match inputs::read_in_force(schema, &table, p, a, b, &mut rows) {
-                Inputs::Refused { answer } => answer,
-                Inputs::Read => {
-                    let mut eligible = [0u64; FEWEST_NODES];
-                    let mut bits = [0u32; MOST_VARIABLES * FEWEST_NODES];
-                    in_force(
-                        schema,
-                        &table,
-                        &sets,
-                        p,
-                        &rows,
-                        &mut eligible,
-                        &mut bits,
-                        out,
-                    )
-                }
-            }
-        }
-    }
+    schema::read_schema(schema, &mut table, &mut sets).map_err(|breach| breach.of(File::Schema))?;
+    let mut rows = [0u16; ROW_SLOTS * FEWEST_NODES];
+    inputs::read_in_force(schema, &table, p, a, b, &mut rows)?;
+    let mut eligible = [0u64; FEWEST_NODES];
+    let mut bits = [0u32; MOST_VARIABLES * FEWEST_NODES];
+    in_force(
+        schema,
+        &table,
+        &sets,
+        p,
+        &rows,
+        &mut eligible,
+        &mut bits,
+        out,
+    )
 }
 
 // The same with tables for few nodes.
-fn with_few(schema: &[u8], p: &[u8], a: u16, b: u16, out: &mut [u8]) -> Answer
+#[tactic(auto, using(schema::proofs::Fill::room_16, instances::proofs::Slots::bits_16, inputs::proofs::Above::rows_16, crate::proofs::Reading::counted, crate::proofs::Reading::eligible_room, calls::proofs::Inputs::schema_bad_did), unfolding(calls::specs::Calls::reconciling))]
+fn with_few(schema: &[u8], p: &[u8], a: u16, b: u16, out: &mut [u8]) -> Result<usize, Refusal>
     requires { count_in schema.now ≤ 16 }
-    ensures { Did (reconciling schema.now p.now a b out.old) result out.new }
+    ensures { Did (reconciling schema.now p.now a b out.old) (answer_of (λ n. n) result) out.new }
 {
     let mut table = [0u16; FEW_TABLE_SLOTS];
     let mut sets = [0u64; FEW_NODES];
-    match schema::read_schema(schema, &mut table, &mut sets) {
-        Step::Bad { number, offset } => fields::refusal(number, 1, offset),
-        Step::Next { at: _ } => {
-            let mut rows = [0u16; ROW_SLOTS * FEW_NODES];
-            match inputs::read_in_force(schema, &table, p, a, b, &mut rows) {
-                Inputs::Refused { answer } => answer,
-                Inputs::Read => {
-                    let mut eligible = [0u64; FEW_NODES];
-                    let mut bits = [0u32; MOST_VARIABLES * FEW_NODES];
-                    in_force(
-                        schema,
-                        &table,
-                        &sets,
-                        p,
-                        &rows,
-                        &mut eligible,
-                        &mut bits,
-                        out,
-                    )
-                }
-            }
-        }
-    }
+    schema::read_schema(schema, &mut table, &mut sets).map_err(|breach| breach.of(File::Schema))?;
+    let mut rows = [0u16; ROW_SLOTS * FEW_NODES];
+    inputs::read_in_force(schema, &table, p, a, b, &mut rows)?;
+    let mut eligible = [0u64; FEW_NODES];
+    let mut bits = [0u32; MOST_VARIABLES * FEW_NODES];
+    in_force(
+        schema,
+        &table,
+        &sets,
+        p,
+        &rows,
+        &mut eligible,
+        &mut bits,
+        out,
+    )
 }
 
 // And for any schema.
-fn with_most(schema: &[u8], p: &[u8], a: u16, b: u16, out: &mut [u8]) -> Answer
-    ensures { Did (reconciling schema.now p.now a b out.old) result out.new }
+#[tactic(auto, using(schema::proofs::Fill::room_64, instances::proofs::Slots::bits_64, inputs::proofs::Above::rows_64, crate::proofs::Reading::eligible_64, calls::proofs::Inputs::schema_bad_did), unfolding(calls::specs::Calls::reconciling))]
+fn with_most(schema: &[u8], p: &[u8], a: u16, b: u16, out: &mut [u8]) -> Result<usize, Refusal>
+    ensures { Did (reconciling schema.now p.now a b out.old) (answer_of (λ n. n) result) out.new }
 {
     let mut table = [0u16; TABLE_SLOTS];
     let mut sets = [0u64; MOST_NODES];
-    match schema::read_schema(schema, &mut table, &mut sets) {
-        Step::Bad { number, offset } => fields::refusal(number, 1, offset),
-        Step::Next { at: _ } => {
-            let mut rows = [0u16; ROW_SLOTS * MOST_NODES];
-            match inputs::read_in_force(schema, &table, p, a, b, &mut rows) {
-                Inputs::Refused { answer } => answer,
-                Inputs::Read => {
-                    let mut eligible = [0u64; MOST_NODES];
-                    let mut bits = [0u32; MOST_VARIABLES * MOST_NODES];
-                    in_force(
-                        schema,
-                        &table,
-                        &sets,
-                        p,
-                        &rows,
-                        &mut eligible,
-                        &mut bits,
-                        out,
-                    )
-                }
-            }
-        }
-    }
+    schema::read_schema(schema, &mut table, &mut sets).map_err(|breach| breach.of(File::Schema))?;
+    let mut rows = [0u16; ROW_SLOTS * MOST_NODES];
+    inputs::read_in_force(schema, &table, p, a, b, &mut rows)?;
+    let mut eligible = [0u64; MOST_NODES];
+    let mut bits = [0u32; MOST_VARIABLES * MOST_NODES];
+    in_force(
+        schema,
+        &table,
+        &sets,
+        p,
+        &rows,
+        &mut eligible,
+        &mut bits,
+        out,
+    )
 }
 
 // The instance for schema, policies and pass into the buffer, or a refusal; few nodes have short tables, which are sooner
 // cleared.
-pub fn reconcile(schema: &[u8], policies: &[u8], a: u16, b: u16, out: &mut [u8]) -> Answer
-    ensures { Did (reconciling schema.now policies.now a b out.old) result out.new }
+pub fn reconcile(
+    schema: &[u8],
+    policies: &[u8],
+    a: u16,
+    b: u16,
+    out: &mut [u8],
+) -> Result<usize, Refusal>
+    ensures { Did (reconciling schema.now policies.now a b out.old) (answer_of (λ n. n) result) out.new }
 {
     let count = schema::count_in(schema);
     if count <= FEWEST_NODES {

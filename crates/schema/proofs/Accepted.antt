@@ -10,9 +10,7 @@ use borrow.Author.Tests.{leb-true, ltb-true}
 use lib.Dec.{leb, ltb}
 use lib.ListN.{length, get_or}
 use Rattle.fields.specs.Reading.{Got, got, bad, be, many}
-use Rattle.fields.specs.Answers.{step_of}
-use Rattle.fields.specs.declared.Step.{Step}
-use Rattle.fields.specs.declared.Step.TheVariants.{Next}
+use Rattle.fields.specs.Answers.{end_of}
 use Rattle.fields.proofs.Tests.{and-true}
 use Rattle.fields.proofs.Reading.{stepped}
 use Rattle.fields.proofs.Back.{went, field_back, after-mark, many-back, many-none, many-length, ended-back, be1}
@@ -82,12 +80,12 @@ file-back s {g} {q} e =
     }
 
 -- the reader's answer
-pub schema-got : (s : List ℕ) {f : Step} {q : ℕ} → f ≡ step_of (schema s) → f ≡ Next q → schema s ≡ got (schema_of s) q
+pub schema_got : (s : List ℕ) {q : ℕ} → got tt q ≡ end_of (schema s) → schema s ≡ got (schema_of s) q
 unfolding schema_of
-schema-got s {q = q} e h = let w = stepped (schema s) e h in w.1 ∙ ap (λ (g : List Node). got g q) (sym (ap nodes_in w.1))
+schema_got s {q} e = let w = stepped (schema s) e in w.1 ∙ ap (λ (g : List Node). got g q) (sym (ap nodes_in w.1))
 
-pub accepted-by : (s : List ℕ) {f : Step} {q : ℕ} → f ≡ step_of (schema s) → f ≡ Next q → Accepted s
-accepted-by s e h = record { some = (file-back s (schema-got s e h)).some }
+pub accepted_by : (s : List ℕ) {q : ℕ} → got tt q ≡ end_of (schema s) → Accepted s
+accepted_by s e = record { some = (file-back s (schema_got s e)).some }
 
 file-at : (s : List ℕ) (g : Got (List Node)) → schema s ≡ g → 0 < length (nodes_in g) → File s (nodes_in g)
 file-at s (bad n o) e h = absurd (omega arith)

@@ -3,17 +3,15 @@
 use mathlib.Core.Path.{◌≡◌, refl, ap, sym, subst, ◌∙◌}
 use mathlib.Core.Bool.{Bool, true, false, cond}
 use mathlib.Core.List.{List, [], ◌∷◌}
-use Prim.Native.Nat.{ℕ, zero, suc, ◌+◌, ◌*◌, ◌/◌, ◌%◌, ◌^◌, ◌≤◌, ◌<◌}
+use Prim.Native.Nat.{ℕ, zero, suc, ◌+◌, ◌*◌, ◌/◌, ◌%◌, ◌≤◌, ◌<◌}
 use native.Mathlib.Omega.{arith}
 use borrow.Author.Tests.{eq-eqb, ne_eqb}
 use lib.Dec.{eqb}
 use lib.ListN.{length, get_or}
 use lib.IntN.{ℤ}
-use lib.Signed.{mag}
 use mir.Val.{to_z, of_z}
-use mir.ValLaws.{to_z-of_z}
 use mir.Syntax.{w32}
-use Rattle.fields.specs.Reading.{got, be, signed}
+use Rattle.fields.specs.Reading.{got, be}
 use Rattle.fields.proofs.Shorts.{short-is}
 use Rattle.fields.proofs.Bytes.{Bytes}
 use Rattle.schema.specs.Schema.{Node, schema_of, node_at, no_variable, is_number, variable}
@@ -217,12 +215,11 @@ module _ (s t : List ℕ) (n k : ℕ) (h : NodeIn s t n) (l : k < length (node_a
     pub number-inside : get_or t (16 * n + 1 + k) 0 + 9 ≤ length s
     number-inside = rw (eq-eqb (get_or s (get_or t (16 * n + 1 + k) 0) 0) 0 e) at wide_at
 
-    pub number_at : {lo hi : ℤ} → lo ≡ signed (be 4 s (get_or t (16 * n + 1 + k) 0 + 1)) → hi ≡ signed (be 4 s (get_or t (16 * n + 1 + k) 0 + 5))
-        → mag lo < 2 ^ 31 → mag hi < 2 ^ 31
+    pub number_at : (lo hi : ℤ) → of_z w32 lo ≡ be 4 s (get_or t (16 * n + 1 + k) 0 + 1) → of_z w32 hi ≡ be 4 s (get_or t (16 * n + 1 + k) 0 + 5)
         → Number (to_z w32 (of_z w32 lo)) (to_z w32 (of_z w32 hi)) ≡ get_or (node_at (schema_of s) n).variables k no_variable
-    number_at {lo} {hi} a b fl fh =
+    number_at lo hi a b =
         let z = rw (eq-eqb (get_or s (get_or t (16 * n + 1 + k) 0) 0) 0 e) at one-here.is in
-        rw (to_z-of_z w32 lo (record { sfits = fl }), to_z-of_z w32 hi (record { sfits = fh }), a, b) (sym z)
+        rw (a, b) (sym z)
 
   module _ (e : get_or s (get_or t (16 * n + 1 + k) 0) 0 ≡ 0 → ⊥) where
     pub number-no : false ≡ is_number (get_or (node_at (schema_of s) n).variables k no_variable)

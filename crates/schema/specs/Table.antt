@@ -1,18 +1,15 @@
 -- Where the records and variables of an accepted schema stand in its file, what the reader's tables hold of it, and what the accessors tell.
-use Rattle.std.specs.Prelude.{ℕ, ◌+◌, ◌-◌, ◌*◌, ◌<◌, ◌≤◌, ◌≡◌, List, [], ◌∷◌, length, get_or, set, replicate}
+use Rattle.std.specs.Prelude.{Result, ℕ, ◌+◌, ◌-◌, ◌*◌, ◌<◌, ◌≤◌, ◌≡◌, List, [], ◌∷◌, length, get_or, set, replicate}
 use Rattle.fields.specs.Reading.{Got, got, bad}
-use Rattle.fields.specs.Answers.{step_of}
+use Rattle.fields.specs.Answers.{as_end, end_of}
 use Rattle.fields.specs.Shorts.{short}
-use Rattle.fields.specs.declared.Step.{Step}
+use Rattle.fields.specs.declared.Breach.{Breach}
 use Rattle.numbers.specs.Bits.{with_all}
 use Rattle.schema.specs.Schema.{Node, most_nodes, schema, schema_of, node_at}
 use Rattle.schema.specs.Layout.{rank_count, span, length_slot, masks_slot, shape_slot, skip_slot, spare_slot, shape_of}
 use Rattle.schema.specs.declared.Variable.{Variable}
 use Rattle.schema.specs.declared.Variable.TheVariants.{Number, Listed}
-use Rattle.schema.specs.declared.VariableRead.{VariableRead}
-use Rattle.schema.specs.declared.VariableRead.TheVariants.{Number as NumberRead, Listed as ListedRead, NoVariable}
-use Rattle.schema.specs.declared.LinksRead.{LinksRead}
-use Rattle.schema.specs.declared.LinksRead.TheVariants.{Linked, NoLinks}
+use Rattle.schema.specs.declared.Successors.{Successors}
 
 -- the bytes of a variable, of its variables and of a node's whole record
 unfoldable pub variable_width : Variable → ℕ
@@ -119,8 +116,8 @@ pub record Room (s t u : List ℕ) : Type 0 where
   pub wide : count_in s ≤ most_nodes → count_in s ≤ length u
 
 -- r and the tables at exit are what reading the file s yields; after a refusal the tables hold anything
-pub record YieldsSchema (s : List ℕ) (r : Step) (t u : List ℕ) : Type 0 where
-  pub answer : r ≡ step_of (schema s)
+pub record YieldsSchema (s : List ℕ) (r : Result ℕ Breach) (t u : List ℕ) : Type 0 where
+  pub answer : as_end r ≡ end_of (schema s)
   pub tabled : Accepted s → Tabled s t
   pub sets : Accepted s → SetsIn s u
 
@@ -147,15 +144,10 @@ pub record SuccessorIs (g : List Node) (n j r : ℕ) : Type 0 where
 
 -- ---- for the contracts of functions that only their own crate calls
 
--- what was read, as the code's answers tell it: a variable, and a node's successors as a set and how many
-abbrev pub variable_read : Got Variable → VariableRead
-variable_read (got (Number lo hi) p) = NumberRead lo hi p
-variable_read (got (Listed size) p) = ListedRead size p
-variable_read (bad n o) = NoVariable n o
-
-abbrev pub links_read : Got (List ℕ) → LinksRead
-links_read (got xs p) = Linked (with_all 0 xs) (length xs) p
-links_read (bad n o) = NoLinks n o
+-- successors that were read, as a set and how many
+abbrev pub in_set : Got (List ℕ) → Got Successors
+in_set (got xs p) = got (record { set = with_all 0 xs; count = length xs }) p
+in_set (bad n o) = bad n o
 
 -- the tables have room for so many nodes
 pub record RoomFor (count : ℕ) (t u : List ℕ) : Type 0 where

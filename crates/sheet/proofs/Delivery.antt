@@ -5,12 +5,11 @@ use mathlib.Core.List.{List}
 use Prim.Native.Nat.{ℕ, ◌*◌, ◌^◌, ◌≤◌, ◌<◌}
 use native.Mathlib.Omega.{arith}
 use lib.ListN.{length}
-use Rattle.fields.specs.Answers.{success, refusal}
+use Rattle.fields.specs.Answers.{Answer, success, refusal}
 use Rattle.fields.specs.Outcomes.{Did, placed}
 use Rattle.fields.specs.Writing.{Wrote}
-use Rattle.fields.specs.declared.Answer.{Answer}
 use Rattle.fields.proofs.Bytes.{Bytes}
-use Rattle.fields.proofs.Placed.{placed-short-did, placed-wrote-did}
+use Rattle.fields.proofs.Placed.{placed_short_did, placed_wrote_did}
 use Rattle.numbers.specs.Bits.{cardinality}
 use Rattle.numbers.proofs.Bits.{cardinality-fits}
 use Rattle.schema.specs.Schema.{schema_of}
@@ -27,8 +26,8 @@ use Rattle.columns.proofs.RoundTrip.{reads-back}
 pub lines_fit : (m : ℕ) {k : ℕ} → m < 2 ^ 64 → k ≡ cardinality m → line_bytes * k < 18446744073709551616
 lines_fit m h e = omega (arith, cardinality-fits m h)
 
-pub sheet-room : (m : ℕ) (out : List ℕ) {k : ℕ} → k ≡ cardinality m → line_bytes * k ≤ length out → line_bytes * cardinality m ≤ length out
-sheet-room m out e h = omega arith
+pub sheet_room : (m : ℕ) (out : List ℕ) {k : ℕ} → k ≡ cardinality m → line_bytes * k ≤ length out → line_bytes * cardinality m ≤ length out
+sheet_room m out e h = omega arith
 
 module _ (f choices bits out : List ℕ) {m k : ℕ} (a : Accepted f) (x : Bytes f) (e : m ≡ nodes_of (held f choices bits)) (back : ReadsBack (schema_of f) (held f choices bits)) (c : k ≡ cardinality m) where
   is-instance : IsInstance (schema_of f) (held f choices bits)
@@ -43,9 +42,9 @@ module _ (f choices bits out : List ℕ) {m k : ℕ} (a : Accepted f) (x : Bytes
         ap cardinality e,
       )
 
-  pub sheet-short : {r : Answer} → length out < line_bytes * k → r ≡ refusal 14 0 0 → Did (placed (sheet (held f choices bits)) out) r out
-  sheet-short h i = placed-short-did (sheet (held f choices bits)) out (omega (arith, long)) i
+  pub sheet_short : {r : Answer} → length out < line_bytes * k → r ≡ refusal 14 0 0 → Did (placed (sheet (held f choices bits)) out) r out
+  sheet_short h i = placed_short_did (sheet (held f choices bits)) out (omega (arith, long)) i
 
-  pub sheet-wrote : {after : List ℕ} {n : ℕ} {r : Answer} → line_bytes * k ≤ length out → Wrote out 0 (sheet (held f choices bits)) after n → r ≡ success n
+  pub sheet_wrote : {after : List ℕ} {n : ℕ} {r : Answer} → line_bytes * k ≤ length out → Wrote out 0 (sheet (held f choices bits)) after n → r ≡ success n
       → Did (placed (sheet (held f choices bits)) out) r after
-  sheet-wrote h u i = placed-wrote-did (sheet (held f choices bits)) out (omega (arith, long)) u i
+  sheet_wrote h u i = placed_wrote_did (sheet (held f choices bits)) out (omega (arith, long)) u i

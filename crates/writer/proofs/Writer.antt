@@ -36,35 +36,35 @@ unfolding spell
 low_byte u = ap (λ (k : ℕ). k ∷ []) (omega arith)
 
 module _ (at room : ℕ) (v : Variable) (h : at + value_width v ≤ room) where
-  pub number-room : {lo hi : ℤ} → v ≡ Number lo hi → at + 4 ≤ room
-  number-room e = omega (arith, width-number v e)
+  pub number_room : {lo hi : ℤ} → v ≡ Number lo hi → at + 4 ≤ room
+  number_room e = omega (arith, width-number v e)
 
-  pub listed-room : {size : ℕ} → v ≡ Listed size → at + 1 ≤ room
-  listed-room e = omega (arith, width-listed v e)
+  pub listed_room : {size : ℕ} → v ≡ Listed size → at + 1 ≤ room
+  listed_room e = omega (arith, width-listed v e)
 
 module _ (b : List ℕ) (at u : ℕ) (v : Variable) {c : List ℕ} where
-  pub number-wrote : {lo hi : ℤ} → v ≡ Number lo hi → u < 2 ^ 32 → c ≡ put b at (spell 4 u) → Wrote b at (encode_value v (value_of v u)) c (at + 4)
+  pub number_wrote : {lo hi : ℤ} → v ≡ Number lo hi → u < 2 ^ 32 → c ≡ put b at (spell 4 u) → Wrote b at (encode_value v (value_of v u)) c (at + 4)
   unfolding encode_value value_of
-  number-wrote e h k =
+  number_wrote e h k =
       let z : of_z w32 (to_z w32 u) ≡ u = of_z-to_z w32 u (record { fits = h }) in
       rw (e, z) (record { holds = k; next = omega (arith, spell-length 4 u) })
 
-  pub listed-wrote : {size : ℕ} → v ≡ Listed size → c ≡ put b at (spell 1 (u % 256)) → Wrote b at (encode_value v (value_of v u)) c (at + 1)
+  pub listed_wrote : {size : ℕ} → v ≡ Listed size → c ≡ put b at (spell 1 (u % 256)) → Wrote b at (encode_value v (value_of v u)) c (at + 1)
   unfolding encode_value value_of
-  listed-wrote e k = rw e (record { holds = k ∙ ap (put b at) (low_byte u); next = omega (arith, spell-length 1 u) })
+  listed_wrote e k = rw e (record { holds = k ∙ ap (put b at) (low_byte u); next = omega (arith, spell-length 1 u) })
 
 -- ---- a node's values, from variable k on
 
 abbrev pub PuttingValues : Node → List ℕ → ℕ → ℕ → List ℕ → ℕ → List ℕ → ℕ → Type 0
 PuttingValues x bits n k b₀ from b at = Putting b₀ from (values_bytes x.variables bits (4 * n)) b at (values_bytes (drop k x.variables) bits (4 * n + k))
 
-pub values-init : (x : Node) (bits : List ℕ) (n : ℕ) (b : List ℕ) (from : ℕ) → PuttingValues x bits n 0 b from b from
-values-init x bits n b from = rw (add-zero (4 * n)) (putting-init b from (values_bytes x.variables bits (4 * n)))
+pub values_init : (x : Node) (bits : List ℕ) (n : ℕ) (b : List ℕ) (from : ℕ) → PuttingValues x bits n 0 b from b from
+values_init x bits n b from = rw (add-zero (4 * n)) (putting-init b from (values_bytes x.variables bits (4 * n)))
 
 module _ (x : Node) (bits : List ℕ) (n k : ℕ) (b₀ : List ℕ) (from : ℕ) (b : List ℕ) (at : ℕ) {c : ℕ} (w : PuttingValues x bits n k b₀ from b at) (l : AtMost 4 (length x.variables) c) where
-  pub values-room : {v : Variable} → k < c → v ≡ get_or x.variables k no_variable → from + values_width x.variables ≤ length b₀ → at + value_width v ≤ length b
+  pub values_room : {v : Variable} → k < c → v ≡ get_or x.variables k no_variable → from + values_width x.variables ≤ length b₀ → at + value_width v ≤ length b
   unfolding values_width
-  values-room h e r =
+  values_room h e r =
       omega (
         arith,
         w.offset,
@@ -74,33 +74,33 @@ module _ (x : Node) (bits : List ℕ) (n k : ℕ) (b₀ : List ℕ) (from : ℕ)
         ap values_width (vars-more x k l h e),
       )
 
-  pub values-step : {v : Variable} {d : List ℕ} {r : ℕ} → k < c → from + values_width x.variables ≤ length b₀ → v ≡ get_or x.variables k no_variable
+  pub values_step : {v : Variable} {d : List ℕ} {r : ℕ} → k < c → from + values_width x.variables ≤ length b₀ → v ≡ get_or x.variables k no_variable
       → Wrote b at (encode_value v (value_of v (get_or bits (4 * n + k) 0))) d r → length d ≡ length b → PuttingValues x bits n (k + 1) b₀ from d r
   unfolding values_from encode_values
-  values-step {v} {d} {r} h y e q z =
+  values_step {v} {d} {r} h y e q z =
       let j : 4 * n + k + 1 ≡ 4 * n + (k + 1) = omega arith in
       let this = encode_value v (value_of v (get_or bits (4 * n + k) 0)) in
       let t = subst (λ (vs : List Variable). Putting b₀ from (values_bytes x.variables bits (4 * n)) b at (values_bytes vs bits (4 * n + k))) (vars-more x k l h e) w in
       subst (λ (m : ℕ). Putting b₀ from (values_bytes x.variables bits (4 * n)) d r (values_bytes (drop (k + 1) x.variables) bits m)) j
-      (putting-step this (values_bytes (drop (k + 1) x.variables) bits (4 * n + k + 1)) t (let a = values-room h e y in omega arith) q z)
+      (putting-step this (values_bytes (drop (k + 1) x.variables) bits (4 * n + k + 1)) t (let a = values_room h e y in omega arith) q z)
 
-  pub values-exit : c ≤ k → Wrote b₀ from (values_bytes x.variables bits (4 * n)) b at
+  pub values_exit : c ≤ k → Wrote b₀ from (values_bytes x.variables bits (4 * n)) b at
   unfolding values_from encode_values
-  values-exit h =
+  values_exit h =
       putting-exit (subst (λ (vs : List Variable). Putting b₀ from (values_bytes x.variables bits (4 * n)) b at (values_bytes vs bits (4 * n + k)))
       (drop_of_length-le x.variables {i = k} (omega (arith, l.is))) w)
 
 -- ---- an entry
 
 module _ (s t : List ℕ) (n : ℕ) (i : NodeIn s t n) where
-  pub node-fits : Fits w8 n
-  node-fits = let z = node-small s t n i in record { fits = omega arith }
+  pub node_fits : Fits w8 n
+  node_fits = let z = node-small s t n i in record { fits = omega arith }
 
-pub entry-wrote : (g : List Node) (choices bits b : List ℕ) (n from : ℕ) {c₁ c₂ c₃ d : List ℕ} {r : ℕ} → from + 4 + values_width (node_at g n).variables ≤ length b → c₁ ≡ put b from IN → c₂ ≡ put c₁ (from + 2) (spell 1 n)
+pub entry_wrote : (g : List Node) (choices bits b : List ℕ) (n from : ℕ) {c₁ c₂ c₃ d : List ℕ} {r : ℕ} → from + 4 + values_width (node_at g n).variables ≤ length b → c₁ ≡ put b from IN → c₂ ≡ put c₁ (from + 2) (spell 1 n)
     → c₃ ≡ put c₂ (from + 3) (spell 1 (get_or choices n 0)) → Wrote c₃ (from + 4) (values_bytes (node_at g n).variables bits (4 * n)) d r
     → Wrote b from (encode_entry g (plan_of g choices bits n)) d r
 unfolding encode_entry plan_of
-entry-wrote g choices bits b n from {c₁} {c₂} {c₃} h e₁ e₂ e₃ w =
+entry_wrote g choices bits b n from {c₁} {c₂} {c₃} h e₁ e₂ e₃ w =
     let nb = spell 1 n in
     let cb = spell 1 (get_or choices n 0) in
     let w₁ : Wrote b from IN c₁ (from + 2) = record { holds = e₁; next = refl } in
@@ -115,44 +115,44 @@ pub record PuttingEntries (f choices bits b₀ : List ℕ) (at count : ℕ) (b :
   pub done : Putting b₀ 3 (encode_entries (schema_of f) (held f choices bits)) b at (encode_entries (schema_of f) rest)
   pub counts : count + length rest ≡ length (held f choices bits)
 
-pub entries-init : (f choices bits b : List ℕ) → PuttingEntries f choices bits b 3 0 b (held f choices bits)
-entries-init f choices bits b = record { done = putting-init b 3 (encode_entries (schema_of f) (held f choices bits)); counts = zero-add (length (held f choices bits)) }
+pub entries_init : (f choices bits b : List ℕ) → PuttingEntries f choices bits b 3 0 b (held f choices bits)
+entries_init f choices bits b = record { done = putting-init b 3 (encode_entries (schema_of f) (held f choices bits)); counts = zero-add (length (held f choices bits)) }
 
 module _ (f choices bits b₀ : List ℕ) (left at count : ℕ) (b : List ℕ) (w : Walk f choices bits (PuttingEntries f choices bits b₀ at count b) left) where
   abbrev g : List Node
   g = schema_of f
 
-  pub entries-few : Accepted f → Bytes f → count + 1 < 256
+  pub entries_few : Accepted f → Bytes f → count + 1 < 256
   unfolding planned
-  entries-few a x = omega (arith, w.holds.counts, from-few g (plan_of g choices bits) (length g) 0 [], (sound f x a.some).few)
+  entries_few a x = omega (arith, w.holds.counts, from-few g (plan_of g choices bits) (length g) 0 [], (sound f x a.some).few)
 
   module _ (room : length (encode (schema_of f) (held f choices bits)) ≤ length b₀) where
-    pub head-room : (c : List ℕ) (k : ℕ) → k ≤ 3 → length c ≡ length b → k ≤ length c
-    head-room c k h e = omega (arith, w.holds.done.long, head-length g (held f choices bits))
+    pub head_room : (c : List ℕ) (k : ℕ) → k ≤ 3 → length c ≡ length b → k ≤ length c
+    head_room c k h e = omega (arith, w.holds.done.long, head-length g (held f choices bits))
 
-    pub file-wrote : {c d : List ℕ} → AtEnd f left → c ≡ put b 0 IH → d ≡ put c 2 (spell 1 count) → Wrote b₀ 0 (encode (schema_of f) (held f choices bits)) d at
+    pub file_wrote : {c d : List ℕ} → AtEnd f left → c ≡ put b 0 IH → d ≡ put c 2 (spell 1 count) → Wrote b₀ 0 (encode (schema_of f) (held f choices bits)) d at
     unfolding encode encode_entries
-    file-wrote {c} {d} t e₁ e₂ =
+    file_wrote {c} {d} t e₁ e₂ =
         let mb = spell 1 count in
         let end = walk-exit w t in
         let z : length (held f choices bits) ≡ count = omega (arith, end.counts) in
-        let room : 3 ≤ length b = head-room b 3 (omega arith) refl in
+        let room : 3 ≤ length b = head_room b 3 (omega arith) refl in
         let head : Wrote b 0 (IH ++ mb) d 3 = wrote_then IH mb (record { holds = e₁; next = refl }) (record { holds = e₂; next = omega (arith, spell-length 1 count) }) (omega arith) in
         rw z (wrote-before (IH ++ mb) (encode_entries g (held f choices bits)) (putting-exit end.done) head (omega (arith, w.holds.done.long)))
 
     module _ {n : ℕ} (t : AtNode f left n) where
-      pub entries-room : at + 4 + values_width (node_at (schema_of f) n).variables ≤ length b
-      entries-room =
+      pub entries_room : at + 4 + values_width (node_at (schema_of f) n).variables ≤ length b
+      entries_room =
           let d = (walk-holds w t).done in
           omega (arith, d.offset, d.long, head-length g (held f choices bits), entries-length g choices bits n (walk_first w t).others)
 
-      pub entries-step : {u r : ℕ} {d : List ℕ} → Wrote b at (encode_entry (schema_of f) (plan_of (schema_of f) choices bits n)) d r → length d ≡ length b → u ≡ turned left n
+      pub entries_step : {u r : ℕ} {d : List ℕ} → Wrote b at (encode_entry (schema_of f) (plan_of (schema_of f) choices bits n)) d r → length d ≡ length b → u ≡ turned left n
           → Walk f choices bits (PuttingEntries f choices bits b₀ r (count + 1) d) u
       unfolding encode_entries
-      entries-step k l u =
+      entries_step k l u =
           let h = walk-holds w t in
           walk_step w t u
           (record {
-            done = putting-step (encode_entry g (plan_of g choices bits n)) (encode_entries g (walk_first w t).others) h.done (omega (arith, entries-room)) k l;
+            done = putting-step (encode_entry g (plan_of g choices bits n)) (encode_entries g (walk_first w t).others) h.done (omega (arith, entries_room)) k l;
             counts = omega (arith, h.counts);
           })

@@ -16,17 +16,18 @@ fn put_value(v: Variable, u: u32, out: &mut [u8], at: usize) -> usize
     ensures { Wrote out.old at (encode_value v (value_of v u)) out.new result }
 {
     match v {
-        Variable::Number { lo: _, hi: _ } => {
-            writing::put_u32(out, at, u);
+        Variable::Number { .. } => {
+            writing::put(out, at, u);
             at + NUMBER_WIDTH
         }
-        Variable::Listed { size: _ } => {
-            writing::put_u8(out, at, (u % 256) as u8);
+        Variable::Listed { .. } => {
+            writing::put(out, at, (u % 256) as u8);
             at + LISTED_WIDTH
         }
     }
 }
 
+#[tactic(auto, using(crate::proofs::Writer::values_init, crate::proofs::Writer::values_room, crate::proofs::Writer::values_exit))]
 fn put_values(
     schema: &[u8],
     table: &[u16],
@@ -40,14 +41,10 @@ fn put_values(
     requires n_in_bounds { from + values_width (node_at (schema_of schema.now) n).variables ≤ length out.old }
     ensures { Wrote out.old from (encode_values (node_at (schema_of schema.now) n).variables (values_from (node_at (schema_of schema.now) n).variables bits.now (4 * n))) out.new result }
 {
-    let count = nodes::variable_count(schema, table, n);
-    let mut k: usize = 0;
     let mut at = from;
-    while k < count {
+    for k in 0..nodes::variable_count(schema, table, n) {
         let v = nodes::variable_of(schema, table, n, k);
-        let u = bits[MOST_VARIABLES * n + k];
-        at = put_value(v, u, out, at);
-        k += 1;
+        at = put_value(v, bits[MOST_VARIABLES * n + k], out, at);
     }
     at
 }
@@ -68,13 +65,14 @@ fn put_entry(
     ensures { Wrote out.old from (encode_entry (schema_of schema.now) (plan_of (schema_of schema.now) choices.now bits.now n)) out.new result }
 {
     writing::put_mark(out, from, b"IN");
-    writing::put_u8(out, from + 2, n as u8);
-    writing::put_u8(out, from + 3, choices[n]);
+    writing::put(out, from + 2, n as u8);
+    writing::put(out, from + 3, choices[n]);
     put_values(schema, table, n, bits, out, from + ENTRY_WIDTH)
 }
 
 // The file of the plan that the arrays hold, whose nodes are these, at the start of a buffer that has room for it: the
 // entries from byte 3 on, the lowest node's first, then the head before them.
+#[tactic(auto, using(crate::proofs::Writer::entries_step))]
 pub fn write_planned(
     schema: &[u8],
     table: &[u16],
@@ -100,6 +98,6 @@ pub fn write_planned(
         count += 1;
     }
     writing::put_mark(out, 0, b"IH");
-    writing::put_u8(out, 2, count);
+    writing::put(out, 2, count);
     at
 }

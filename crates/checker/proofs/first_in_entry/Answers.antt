@@ -1,14 +1,11 @@
 -- The choice comes first, then the values.
 -- Rests on the laws of an entry, in Entries.
 use Rattle.schema.proofs.Access.{node-small}
-use Rattle.checker.proofs.Entries.{entry-no, entry-on}
+use Rattle.checker.proofs.Entries.{entry_no}
 use Rattle.checker.proofs.first_in_entry.Goals as goal
 
 pub bounds-choices-n : goal.bounds-choices-n
 bounds-choices-n c = search node-small
 
-pub returns-then-choice_allowed : goal.returns-then-choice_allowed
-returns-then-choice_allowed c = search entry-on
-
 pub returns : goal.returns
-returns c = search entry-no
+returns c = search entry_no

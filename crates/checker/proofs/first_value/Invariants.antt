@@ -1,5 +1,5 @@
 -- The values from here on are left to judge.
-use Prim.Native.Nat.{◌-◌, ◌*◌}
+use Prim.Native.Nat.{◌*◌}
 use Rattle.schema.specs.Schema.{schema_of, node_at}
 use Rattle.policies.specs.Rows.{noted}
 use Rattle.instances.specs.Plan.{values_from}
@@ -10,6 +10,3 @@ use Rattle.checker.proofs.first_value.Given as goal
 
 abbrev pub invariant-loop-k : goal.invariant-loop-k
 invariant-loop-k l = Judging (schema_of l.schema) (noted (schema_of l.schema) l.p l.rows) l.n l.bits (forbidden_in (forbidden_value (noted (schema_of l.schema) l.p l.rows) l.n 0 (node_at (schema_of l.schema) l.n).variables (values_from (node_at (schema_of l.schema) l.n).variables l.bits (4 * l.n)) l.from)) l.k l.at l.skip
-
-abbrev pub decreases-loop-k : goal.decreases-loop-k
-decreases-loop-k l = l.count - l.k

@@ -1,13 +1,10 @@
 -- Policies and pass are judged, then the instance.
 -- Rests on the laws of policies and pass.
-use Rattle.inputs.proofs.Above.{in-force-noted, in-force-bad, in-force-checked}
+use Rattle.inputs.proofs.Above.{in_force_noted, in_force_checked}
 use Rattle.checker.proofs.with_rows.Goals as goal
 
 pub in_force-requires-clause-noted : goal.in_force-requires-clause-noted
-in_force-requires-clause-noted c = in-force-noted _ _ _ _ _ c.read_in_force.ensures c.in-Read.is
+in_force-requires-clause-noted c = in_force_noted _ _ _ _ _ c.in_ok-read_in_force.ensures
 
-pub returns-in-Refused : goal.returns-in-Refused
-returns-in-Refused c = search in-force-bad
-
-pub returns-in-Read : goal.returns-in-Read
-returns-in-Read c = in-force-checked _ _ _ _ _ c.read_in_force.ensures c.in-Read.is _ c.in_force.ensures
+pub returns : goal.returns
+returns c = in_force_checked _ _ _ _ _ c.in_ok-read_in_force.ensures _ c.in_force.ensures

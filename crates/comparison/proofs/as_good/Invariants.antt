@@ -1,9 +1,7 @@
 -- From node n up the flags of the reached nodes are right, whatever instances have these choices.
+-- Rests on the record Flagging.
 use Rattle.comparison.proofs.Flagging.{Flagging}
 use Rattle.comparison.proofs.as_good.Given as goal
 
 abbrev pub invariant-loop-n : goal.invariant-loop-n
 invariant-loop-n l = Flagging l.schema l.p l.rows l.first l.second l.flags l.n
-
-abbrev pub decreases-loop-n : goal.decreases-loop-n
-decreases-loop-n l = l.n

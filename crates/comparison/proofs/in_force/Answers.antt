@@ -1,21 +1,14 @@
 -- File 4, then file 5, then the verdict.
--- Rests on the ruleset instances-read, from what the reader's contract tells.
-use Rattle.instances.proofs.Slots.{bits-64, bits-kept}
-use Rattle.comparison.proofs.Call.{instances-read}
-use borrow.Author.Rules.{rules}
+-- Rests on the laws of two files, in Call, and on that the reader has answered Ok where the call goes on.
+use Rattle.fields.proofs.Mapped.{mapped_ok}
+use Rattle.std.proofs.Common.{rules}
+use Rattle.comparison.proofs.Call.{second_bad, both_read}
 use Rattle.comparison.proofs.in_force.Goals as goal
 
-pub read_instance-requires-clause-bits_room : goal.read_instance-requires-clause-bits_room
-read_instance-requires-clause-bits_room c = search bits-64
+pub returns-in_err-map_err-2 : goal.returns-in_err-map_err-2
+returns-in_err-map_err-2 c = search (second_bad _ _ _ _ c.read_instance.ensures (mapped_ok _ c.in_ok-map_err.ensures.cases), rules)
 
-pub read_instance-requires-in-Instance-clause-bits_room : goal.read_instance-requires-in-Instance-clause-bits_room
-read_instance-requires-in-Instance-clause-bits_room c = search (bits-kept, bits-64, rules)
-
-pub returns-in-NoInstance : goal.returns-in-NoInstance
-returns-in-NoInstance c = search instances-read
-
-pub returns-in-NoInstance-read_instance : goal.returns-in-NoInstance-read_instance
-returns-in-NoInstance-read_instance c = search instances-read
-
-pub returns-in-Instance-read_instance : goal.returns-in-Instance-read_instance
-returns-in-Instance-read_instance c = search instances-read
+pub returns : goal.returns
+returns c =
+    both_read _ _ _ _ c.read_instance.ensures (mapped_ok _ c.in_ok-map_err.ensures.cases) _ _ _ _ c.read_instance-2.ensures (mapped_ok _ c.in_ok-map_err-2.ensures.cases)
+    c.compare_choices.ensures

@@ -1,7 +1,6 @@
--- A node that chooses is judged by the choices, any other by its successors.
--- Rests on the laws of nodes, in Good.
+-- A node has a number below 64, so the choices have a slot for it.
+-- Rests on node-small, of the schema's table.
 use Rattle.schema.proofs.Access.{node-small}
-use Rattle.comparison.proofs.Good.{node-chooses, node-rests}
 use Rattle.comparison.proofs.is_good.Goals as goal
 
 pub bounds-first-n : goal.bounds-first-n
@@ -9,9 +8,3 @@ bounds-first-n c = search node-small
 
 pub bounds-second-n : goal.bounds-second-n
 bounds-second-n c = search node-small
-
-pub returns-then-chooses : goal.returns-then-chooses
-returns-then-chooses c = search node-chooses
-
-pub returns : goal.returns
-returns c = search node-rests

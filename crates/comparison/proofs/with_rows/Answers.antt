@@ -1,13 +1,10 @@
 -- Policies and pass are judged, then the instances.
 -- Rests on the laws of policies and pass.
-use Rattle.inputs.proofs.Above.{in-force-noted, in-force-bad, in-force-compared}
+use Rattle.inputs.proofs.Above.{in_force_noted, in_force_compared}
 use Rattle.comparison.proofs.with_rows.Goals as goal
 
 pub in_force-requires-clause-noted : goal.in_force-requires-clause-noted
-in_force-requires-clause-noted c = in-force-noted _ _ _ _ _ c.read_in_force.ensures c.in-Read.is
+in_force-requires-clause-noted c = in_force_noted _ _ _ _ _ c.in_ok-read_in_force.ensures
 
-pub returns-in-Refused : goal.returns-in-Refused
-returns-in-Refused c = search in-force-bad
-
-pub returns-in-Read : goal.returns-in-Read
-returns-in-Read c = in-force-compared _ _ _ _ _ c.read_in_force.ensures c.in-Read.is _ _ c.in_force.ensures
+pub returns : goal.returns
+returns c = in_force_compared _ _ _ _ _ c.in_ok-read_in_force.ensures _ _ c.in_force.ensures

@@ -1,19 +1,16 @@
 -- The schema is judged, then the policies.
--- Rests on the ruleset schemas.
+-- Rests on the laws of the schema's reader, which has answered Ok where the call goes on.
+use Rattle.fields.proofs.Mapped.{mapped_ok}
 use Rattle.calls.specs.Calls.{comparing}
-use Rattle.calls.proofs.Inputs.{schemas, schema-accepted, schema-tabled}
+use Rattle.calls.proofs.Inputs.{schema_ok, schema_accepted, schema_tabled}
 use Rattle.comparison.proofs.with_tables.Goals as goal
 
 pub with_schema-requires-clause-accepted : goal.with_schema-requires-clause-accepted
-with_schema-requires-clause-accepted c = search schema-accepted
+with_schema-requires-clause-accepted c = schema_accepted _ _ _ c.read_schema.ensures (mapped_ok _ c.in_ok-map_err.ensures.cases)
 
 pub with_schema-requires-clause-tabled : goal.with_schema-requires-clause-tabled
-with_schema-requires-clause-tabled c = schema-tabled _ _ _ c.read_schema.ensures c.in-Next.is
+with_schema-requires-clause-tabled c = schema_tabled _ _ _ c.read_schema.ensures (mapped_ok _ c.in_ok-map_err.ensures.cases)
 
-pub returns-in-Bad : goal.returns-in-Bad
+pub returns : goal.returns
 unfolding comparing
-returns-in-Bad c = search schemas
-
-pub returns-in-Next : goal.returns-in-Next
-unfolding comparing
-returns-in-Next c = search schemas
+returns c = schema_ok _ _ _ c.read_schema.ensures (mapped_ok _ c.in_ok-map_err.ensures.cases) _ c.with_schema.ensures

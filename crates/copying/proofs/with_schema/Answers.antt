@@ -1,15 +1,8 @@
 -- An accepted file is the encoding of what was read.
--- Rests on copied, and on what the reader's contract tells.
-use Rattle.instances.proofs.Slots.{bits-64}
-use Rattle.instance_reader.proofs.Decoded.{instance-bad-did}
+-- Rests on copied, and on that the reader has answered Ok where the call goes on.
+use Rattle.fields.proofs.Mapped.{mapped_ok}
 use Rattle.copying.proofs.Copying.{copied}
 use Rattle.copying.proofs.with_schema.Goals as goal
 
-pub read_instance-requires-clause-bits_room : goal.read_instance-requires-clause-bits_room
-read_instance-requires-clause-bits_room c = search bits-64
-
-pub returns-in-NoInstance : goal.returns-in-NoInstance
-returns-in-NoInstance c = search instance-bad-did
-
-pub returns-in-Instance : goal.returns-in-Instance
-returns-in-Instance c = search copied
+pub returns : goal.returns
+returns c = copied _ _ _ _ _ c.read_instance.ensures (mapped_ok _ c.in_ok-map_err.ensures.cases) c.type_inv.s c.deliver.ensures

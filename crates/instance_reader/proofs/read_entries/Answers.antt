@@ -1,37 +1,18 @@
--- The entries read so far leave the bits of `due` due, and what is left to read and to fill from here equals the whole.
--- Rests on `Held` of Due.antt and on a sound schema.
-use Rattle.instance_reader.proofs.Reader.{going-init, going-within, going-long, going-room, going-same, going-after, going-bad, going_step, going-exit, going-due}
+-- The entries that were read tell which nodes are due: a breach in one refuses them, and so does a node that is left.
+-- Rests on the laws of `Going`, in Reader.
+use Rattle.std.proofs.Common.{rules}
+use mathlib.Core.Path.{◌∙◌}
+use Rattle.instance_reader.proofs.Reader.{going_bad, going_step, going_exit, going_due}
 use Rattle.instance_reader.proofs.read_entries.Goals as goal
 
-pub loop-left-init : goal.loop-left-init
-loop-left-init c = search going-init
+pub returns-in_err-visit : goal.returns-in_err-visit
+returns-in_err-visit c = (search rules) ∙ going_bad _ _ _ _ _ _ _ _ _ _ c.loop-turn.invariant c.loop-turn-test.true c.in_err-visit.ensures
 
-pub read_entry-requires-clause-within : goal.read_entry-requires-clause-within
-read_entry-requires-clause-within c = search going-within
-
-pub read_entry-requires-clause-choices_len : goal.read_entry-requires-clause-choices_len
-read_entry-requires-clause-choices_len c = search going-long
-
-pub read_entry-requires-clause-bits_room : goal.read_entry-requires-clause-bits_room
-read_entry-requires-clause-bits_room c = search going-room
-
-pub shape_of-bits-in-NoEntry : goal.shape_of-bits-in-NoEntry
-shape_of-bits-in-NoEntry c = search going-after
-
-pub returns-in-NoEntry : goal.returns-in-NoEntry
-returns-in-NoEntry c = search going-bad
-
-pub loop-left-preserved : goal.loop-left-preserved
-loop-left-preserved c = search going_step
-
-pub shape_of-bits-then-due-eq0 : goal.shape_of-bits-then-due-eq0
-shape_of-bits-then-due-eq0 c = search going-same
+pub loop-turn-preserved : goal.loop-turn-preserved
+loop-turn-preserved c = going_step _ _ _ _ _ _ _ _ _ _ c.loop-turn.invariant c.loop-turn-test.true c.requires.accepted c.type_inv.schema c.in_ok-visit.ensures c.with-nodes.ensures (search rules)
 
 pub returns-then-due-eq0 : goal.returns-then-due-eq0
-returns-then-due-eq0 c = search going-exit
-
-pub shape_of-bits : goal.shape_of-bits
-shape_of-bits c = search going-same
+returns-then-due-eq0 c = search going_exit
 
 pub returns : goal.returns
-returns c = search going-due
+returns c = rw c.new.ensures (going_due _ _ _ _ _ _ _ _ _ _ c.loop-turn.invariant c.loop-turn-test.false c.if-due-eq0.false)

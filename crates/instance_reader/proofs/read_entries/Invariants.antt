@@ -1,4 +1,5 @@
 -- The entries read so far leave the bits of `due` due, and what is left to read and to fill from here equals the whole.
+-- Rests on `Going` of Reader.antt.
 use mathlib.Core.List.{[]}
 use Rattle.fields.specs.Runs.{run_of}
 use Rattle.schema.specs.Schema.{schema_of}
@@ -7,8 +8,5 @@ use Rattle.instance_reader.specs.Reader.{fill_entries, emptied}
 use Rattle.instance_reader.proofs.Reader.{Going}
 use Rattle.instance_reader.proofs.read_entries.Given as goal
 
-abbrev pub invariant-loop-left : goal.invariant-loop-left
-invariant-loop-left l = Going l.schema l.s l.initial.bits (run_of (fill_entries (schema_of l.schema)) (entries l.s (schema_of l.schema) l.m [] l.from) (emptied l.initial.choices l.initial.bits)) l.left l.due l.nodes l.at l.choices l.bits
-
-abbrev pub decreases-loop-left : goal.decreases-loop-left
-decreases-loop-left l = l.left
+abbrev pub invariant-loop-turn : goal.invariant-loop-turn
+invariant-loop-turn l = Going l.schema l.s l.initial.bits (run_of (fill_entries (schema_of l.schema)) (entries l.s (schema_of l.schema) l.m [] l.from) (emptied l.initial.choices l.initial.bits)) l.m l._turn l.due l.nodes l.at l.choices l.bits

@@ -1,16 +1,12 @@
--- Each return is one way that a number's field can end.
--- Rests on the ruleset numbers.
-use Rattle.instance_reader.proofs.Reader.{numbers}
+-- A value outside the bounds is refused.
+-- Rests on the definitions.
+use Rattle.std.proofs.Common.{rules}
+use Rattle.fields.specs.Reading.{part, field}
+use Rattle.instances.specs.File.{value, value_width, value_of}
+use Rattle.instances.specs.Instance.{in_domain}
+use Rattle.instance_reader.specs.Decoded.{bits_of}
 use Rattle.instance_reader.proofs.read_number.Goals as goal
 
-pub returns-then-value-hi : goal.returns-then-value-hi
-returns-then-value-hi c = search numbers
-
-pub returns-then-lo-value : goal.returns-then-lo-value
-returns-then-lo-value c = search numbers
-
-pub returns-in-NoSigned : goal.returns-in-NoSigned
-returns-in-NoSigned c = search numbers
-
-pub returns-else-lo-value : goal.returns-else-lo-value
-returns-else-lo-value c = search numbers
+pub returns : goal.returns
+unfolding part field value value_width value_of in_domain bits_of
+returns c = search rules

@@ -1,5 +1,6 @@
 -- What is left to read and to fill from variable k on equals the whole.
-use Prim.Native.Nat.{◌-◌, ◌*◌}
+-- Rests on `ReadingValues` of Reader.antt.
+use Prim.Native.Nat.{◌*◌}
 use Rattle.fields.specs.Runs.{run_of}
 use Rattle.schema.specs.Schema.{schema_of, node_at}
 use Rattle.instances.specs.File.{values}
@@ -9,6 +10,3 @@ use Rattle.instance_reader.proofs.read_values.Given as goal
 
 abbrev pub invariant-loop-k : goal.invariant-loop-k
 invariant-loop-k l = ReadingValues l.schema l.s l.n l.initial.bits (run_of (fill_values (node_at (schema_of l.schema) l.n).variables (4 * l.n)) (values l.s (node_at (schema_of l.schema) l.n).variables l.from) l.initial.bits) l.k l.at l.bits
-
-abbrev pub decreases-loop-k : goal.decreases-loop-k
-decreases-loop-k l = l.count - l.k

@@ -1,11 +1,6 @@
--- With the bytes from i on put from here, the buffer is what it shall be.
-use Prim.Native.Nat.{◌-◌}
-use lib.ListN.{length}
+-- With the bytes from here on put, the buffer is what it shall be.
 use Rattle.lines.proofs.Writing.{PuttingHex}
 use Rattle.lines.proofs.put_hex.Given as goal
 
-abbrev pub invariant-loop-i : goal.invariant-loop-i
-invariant-loop-i l = PuttingHex l.initial.out l.at l.bytes l.out l.to l.i
-
-abbrev pub decreases-loop-i : goal.decreases-loop-i
-decreases-loop-i l = length l.bytes - l.i
+abbrev pub invariant-loop-byte : goal.invariant-loop-byte
+invariant-loop-byte l = PuttingHex l.initial.out l.from l.bytes l.out l.at l.byte-index

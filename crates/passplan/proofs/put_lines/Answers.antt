@@ -1,26 +1,17 @@
 -- With the lines of the records left put from here, the buffer is what it shall be.
 -- Rests on the laws of `put` and on put_answer's contract.
-use borrow.Author.Rules.{rules}
-use Rattle.passplan.proofs.Printing.{printing-none, printed-all, printed-most, line-room, printed-bad, six-fit, printing-more}
+use Rattle.std.proofs.Common.{rules}
+use Rattle.passplan.proofs.Printing.{printing_break, printing_step, printing_last}
 use Rattle.passplan.proofs.put_lines.Goals as goal
 
-pub loop-left-init : goal.loop-left-init
-loop-left-init c = search printing-none
+pub returns-in_err-to : goal.returns-in_err-to
+returns-in_err-to c =
+    search (printing_break _ _ _ _ _ _ _ _ c.loop-at.invariant c.loop-at-test.true c.requires.s_len c.in_err-to.ensures, rules)
 
-pub returns-then-s-at : goal.returns-then-s-at
-returns-then-s-at c = search printed-all
+pub loop-at-preserved : goal.loop-at-preserved
+loop-at-preserved c =
+    printing_step _ _ _ _ _ _ _ _ c.loop-at.invariant c.loop-at-test.true c.requires.s_len c.in_ok-to.ensures c.requires.most_in_bounds
 
-pub put_answer-said-requires-clause-most_line_in_bounds : goal.put_answer-said-requires-clause-most_line_in_bounds
-put_answer-said-requires-clause-most_line_in_bounds c = search (line-room, rules)
-
-pub returns-then-said : goal.returns-then-said
-returns-then-said c = search printed-bad
-
-pub overflow_add-at : goal.overflow_add-at
-overflow_add-at c = search (six-fit, rules)
-
-pub loop-left-preserved : goal.loop-left-preserved
-loop-left-preserved c = search printing-more
-
-pub returns : goal.returns
-returns c = search printed-most
+pub returns-in_ok-to : goal.returns-in_ok-to
+returns-in_ok-to c =
+    search (printing_last _ _ _ _ _ _ _ _ c.loop-at.invariant c.loop-at-test.true c.requires.s_len c.in_ok-to.ensures, rules)

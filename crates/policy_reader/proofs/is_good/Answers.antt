@@ -1,11 +1,7 @@
 -- Each return is one of the tests.
 -- Rests on the laws of the tests of a PN.
-use Rattle.fields.proofs.Shorts.{element-wide}
 use Rattle.policy_reader.proofs.Body.{good-not, good-bare, good-masks, good-looking}
 use Rattle.policy_reader.proofs.is_good.Goals as goal
-
-pub overflow_cast-table : goal.overflow_cast-table
-overflow_cast-table c = search element-wide
 
 pub returns-then-table-n-eq0 : goal.returns-then-table-n-eq0
 returns-then-table-n-eq0 c = search good-bare

@@ -8,11 +8,11 @@ use Rattle.policies.specs.Rows.{note_policies}
 use Rattle.policy_reader.specs.Runs.{Leaves}
 use Rattle.policy_reader.proofs.read_policies.Given as goal
 
-abbrev pub invariant-loop-w : goal.invariant-loop-w
-invariant-loop-w l = record {
+abbrev pub invariant-loop-next : goal.invariant-loop-next
+invariant-loop-next l = record {
   bytes : l.w.bytes.now ≡ l.p;
   left : Leaves (schema_of l.schema) l.p l.a l.b l.j l.w.at l.rows (run_of (note_policies (in_force l.a l.b) 0) (policies (schema_of l.schema) l.p) l.initial.rows);
 }
 
-abbrev pub decreases-loop-w : goal.decreases-loop-w
-decreases-loop-w l = most_policies - l.j
+abbrev pub decreases-loop-next : goal.decreases-loop-next
+decreases-loop-next l = most_policies - l.j

@@ -1,47 +1,34 @@
 -- Schema, policies and pass are judged, then the instance is planned and written, with room for 16 nodes.
--- Rests on the rulesets reading, schemas and inputs.
+-- Rests on the laws of the schema's reader, which has answered Ok where the call goes on, and of what is read after it.
+use Rattle.std.proofs.Common.{rules}
+use Rattle.fields.proofs.Mapped.{mapped_ok}
 use Rattle.calls.specs.Calls.{reconciling}
-use Rattle.calls.proofs.Inputs.{schemas}
-use Rattle.inputs.proofs.Above.{in-force-noted, inputs}
-use Rattle.reconciler.proofs.Reading.{reading}
-use borrow.Author.Rules.{rules}
+use Rattle.calls.proofs.Inputs.{schema_accepted, schema_tabled, schema_ok_did}
+use Rattle.inputs.proofs.Above.{in_force_noted, in_force_bad_did, in_force_reconciled}
 use Rattle.reconciler.proofs.with_few.Goals as goal
 
 pub read_in_force-requires-clause-accepted : goal.read_in_force-requires-clause-accepted
-read_in_force-requires-clause-accepted c = search reading
+read_in_force-requires-clause-accepted c = schema_accepted _ _ _ c.read_schema.ensures (mapped_ok _ c.in_ok-map_err.ensures.cases)
 
 pub read_in_force-requires-clause-tabled : goal.read_in_force-requires-clause-tabled
-read_in_force-requires-clause-tabled c = search reading
+read_in_force-requires-clause-tabled c = schema_tabled _ _ _ c.read_schema.ensures (mapped_ok _ c.in_ok-map_err.ensures.cases)
 
-pub read_in_force-requires-clause-rows_room : goal.read_in_force-requires-clause-rows_room
-read_in_force-requires-clause-rows_room c = search reading
+pub returns-in_err-read_in_force : goal.returns-in_err-read_in_force
+unfolding reconciling
+returns-in_err-read_in_force c =
+    search (schema_ok_did _ _ _ c.read_schema.ensures (mapped_ok _ c.in_ok-map_err.ensures.cases), in_force_bad_did _ _ _ _ _ c.in_err-read_in_force.ensures, rules)
 
 pub in_force-requires-clause-accepted : goal.in_force-requires-clause-accepted
-in_force-requires-clause-accepted c = search reading
+in_force-requires-clause-accepted c = schema_accepted _ _ _ c.read_schema.ensures (mapped_ok _ c.in_ok-map_err.ensures.cases)
 
 pub in_force-requires-clause-tabled : goal.in_force-requires-clause-tabled
-in_force-requires-clause-tabled c = search reading
-
-pub in_force-requires-clause-sets_in : goal.in_force-requires-clause-sets_in
-in_force-requires-clause-sets_in c = search reading
+in_force-requires-clause-tabled c = schema_tabled _ _ _ c.read_schema.ensures (mapped_ok _ c.in_ok-map_err.ensures.cases)
 
 pub in_force-requires-clause-noted : goal.in_force-requires-clause-noted
-in_force-requires-clause-noted c = in-force-noted _ _ _ _ _ c.read_in_force.ensures (search rules)
+in_force-requires-clause-noted c = in_force_noted _ _ _ _ _ c.in_ok-read_in_force.ensures
 
-pub in_force-requires-clause-eligible_room : goal.in_force-requires-clause-eligible_room
-in_force-requires-clause-eligible_room c = search reading
-
-pub in_force-requires-clause-bits_room : goal.in_force-requires-clause-bits_room
-in_force-requires-clause-bits_room c = search reading
-
-pub returns-in-Bad : goal.returns-in-Bad
+pub returns : goal.returns
 unfolding reconciling
-returns-in-Bad c = search (schemas, inputs)
-
-pub returns-in-Refused : goal.returns-in-Refused
-unfolding reconciling
-returns-in-Refused c = search (schemas, inputs)
-
-pub returns-in-Read : goal.returns-in-Read
-unfolding reconciling
-returns-in-Read c = search (schemas, inputs)
+returns c =
+    schema_ok_did _ _ _ c.read_schema.ensures (mapped_ok _ c.in_ok-map_err.ensures.cases) _ _
+    (in_force_reconciled _ _ _ _ _ c.in_ok-read_in_force.ensures _ c.in_force.ensures)

@@ -1,13 +1,8 @@
 -- What is left to read from here equals the whole.
--- Rests on the laws of the loop over a node's variables.
-use Rattle.rule_reader.proofs.Reader.{conditions-bad, conditions-more, conditions-done}
+-- Rests on conditions_more.
+use Rattle.std.proofs.Common.{arith}
+use Rattle.rule_reader.proofs.Reader.{conditions_more}
 use Rattle.rule_reader.proofs.read_conditions.Goals as goal
 
-pub returns-in-Bad : goal.returns-in-Bad
-returns-in-Bad c = search conditions-bad
-
 pub loop-k-preserved : goal.loop-k-preserved
-loop-k-preserved c = search conditions-more
-
-pub returns : goal.returns
-returns c = search conditions-done
+loop-k-preserved c = conditions_more _ _ _ _ _ c.loop-k.invariant (omega arith) c.variable_count-k-end.ensures c.variable_of-v.ensures c.in_ok-at.ensures

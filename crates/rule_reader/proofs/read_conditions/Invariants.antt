@@ -1,14 +1,10 @@
 -- What is left to read from here equals the whole.
 use mathlib.Core.Path.{◌≡◌}
-use Prim.Native.Nat.{◌-◌}
 use lib.ListN.{drop}
-use Rattle.fields.specs.Answers.{step_of}
+use Rattle.fields.specs.Answers.{end_of}
 use Rattle.schema.specs.Schema.{schema_of, node_at}
 use Rattle.policies.specs.Policies.{conditions}
 use Rattle.rule_reader.proofs.read_conditions.Given as goal
 
 abbrev pub invariant-loop-k : goal.invariant-loop-k
-invariant-loop-k l = step_of (conditions l.b (drop l.k (node_at (schema_of l.schema) l.n).variables) l.at) ≡ step_of (conditions l.b (node_at (schema_of l.schema) l.n).variables l.from)
-
-abbrev pub decreases-loop-k : goal.decreases-loop-k
-decreases-loop-k l = l.v - l.k
+invariant-loop-k l = end_of (conditions l.b (drop l.k (node_at (schema_of l.schema) l.n).variables) l.at) ≡ end_of (conditions l.b (node_at (schema_of l.schema) l.n).variables l.from)

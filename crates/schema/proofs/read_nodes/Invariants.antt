@@ -2,8 +2,5 @@
 use Rattle.schema.proofs.Fill.{NodesLeft}
 use Rattle.schema.proofs.read_nodes.Given as goal
 
-abbrev pub invariant-loop-left : goal.invariant-loop-left
-invariant-loop-left l = NodesLeft l.s l.count l.from l.initial.table l.initial.sets l.table l.sets l.left l.own l.at
-
-abbrev pub decreases-loop-left : goal.decreases-loop-left
-decreases-loop-left l = l.left
+abbrev pub invariant-loop-own : goal.invariant-loop-own
+invariant-loop-own l = NodesLeft l.s l.count l.from l.initial.table l.initial.sets l.table l.sets l.own l.at

@@ -1,16 +1,10 @@
--- Each return is one way that the two bounds can end.
--- Rests on the ruleset bounds.
-use Rattle.schema.proofs.Reader.{bounds}
+-- Bounds in order are read.
+-- Rests on the definitions of a field and of a number.
+use Rattle.std.proofs.Common.{rules}
+use Rattle.fields.specs.Reading.{part, field}
+use Rattle.schema.specs.Schema.{number}
 use Rattle.schema.proofs.read_number.Goals as goal
 
 pub returns-then-lo-hi : goal.returns-then-lo-hi
-returns-then-lo-hi c = search bounds
-
-pub returns-in-NoSigned : goal.returns-in-NoSigned
-returns-in-NoSigned c = search bounds
-
-pub returns-in-NoSigned-read_i32 : goal.returns-in-NoSigned-read_i32
-returns-in-NoSigned-read_i32 c = search bounds
-
-pub returns-else-lo-hi : goal.returns-else-lo-hi
-returns-else-lo-hi c = search bounds
+unfolding number field part
+returns-then-lo-hi c = search rules

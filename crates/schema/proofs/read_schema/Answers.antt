@@ -1,27 +1,23 @@
 -- A breach before the nodes refuses the file; else the nodes decide.
--- Rests on the laws of reading and schema-ok.
-use Rattle.schema.proofs.Fill.{schema-values, schema-room, schema-ok}
+-- Rests on the laws of the file, in Fill.
+use Rattle.std.proofs.Common.{arith, rules}
+use Rattle.fields.specs.Reading.{part, field}
+use Rattle.fields.specs.Answers.{number}
 use Rattle.schema.specs.Schema.{schema}
+use Rattle.schema.proofs.Fill.{schema_bad, schema_ok}
 use Rattle.schema.proofs.read_schema.Goals as goal
 
-pub returns-then-value-eq0 : goal.returns-then-value-eq0
-unfolding schema
-returns-then-value-eq0 c = search schema-values depth 9
+pub returns-in_err-at : goal.returns-in_err-at
+unfolding schema part field
+returns-in_err-at c = let b = c.in_err-at.field-0.0 in schema_bad _ _ _ {n = number b.fault} {o = b.offset} (search rules) (search rules)
 
-pub returns-then-value-gt-NODES : goal.returns-then-value-gt-NODES
-unfolding schema
-returns-then-value-gt-NODES c = search schema-values depth 9
+pub returns-in_err-count : goal.returns-in_err-count
+unfolding schema part field
+returns-in_err-count c = let b = c.in_err-count.field-0.0 in schema_bad _ _ _ {n = number b.fault} {o = b.offset} (search rules) (search rules)
 
-pub read_body-requires : goal.read_body-requires
-read_body-requires c = search schema-room
+pub returns-then-count-eq0 : goal.returns-then-count-eq0
+unfolding schema part field
+returns-then-count-eq0 c = let b = c.new.result in schema_bad _ _ _ {n = number b.fault} {o = b.offset} (search rules) (search rules)
 
-pub returns-in-Bad : goal.returns-in-Bad
-unfolding schema
-returns-in-Bad c = search schema-values depth 9
-
-pub returns-in-Cut : goal.returns-in-Cut
-unfolding schema
-returns-in-Cut c = search schema-values depth 9
-
-pub returns-else-value-gt-NODES : goal.returns-else-value-gt-NODES
-returns-else-value-gt-NODES c = search schema-ok
+pub returns : goal.returns
+returns c = schema_ok _ _ _ c.requires c.in_ok-at.ensures c.in_ok-count.ensures _ _ _ (omega arith) (omega arith) c.read_body.ensures

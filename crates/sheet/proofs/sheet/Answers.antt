@@ -1,23 +1,16 @@
 -- Schema first, then the instance.
--- Rests on the ruleset schemas.
-use Rattle.schema.proofs.Fill.{room-64}
+-- Rests on the laws of the schema's reader, which has answered Ok where the call goes on.
+use Rattle.fields.proofs.Mapped.{mapped_ok}
 use Rattle.calls.specs.Calls.{delivering, sheeting}
-use Rattle.calls.proofs.Inputs.{schemas, schema-accepted, schema-tabled}
+use Rattle.calls.proofs.Inputs.{schema_accepted, schema_tabled, schema_ok_did}
 use Rattle.sheet.proofs.sheet.Goals as goal
 
-pub read_schema-requires : goal.read_schema-requires
-read_schema-requires c = search room-64
-
 pub with_schema-requires-clause-accepted : goal.with_schema-requires-clause-accepted
-with_schema-requires-clause-accepted c = search schema-accepted
+with_schema-requires-clause-accepted c = schema_accepted _ _ _ c.read_schema.ensures (mapped_ok _ c.in_ok-map_err.ensures.cases)
 
 pub with_schema-requires-clause-tabled : goal.with_schema-requires-clause-tabled
-with_schema-requires-clause-tabled c = search schema-tabled
+with_schema-requires-clause-tabled c = schema_tabled _ _ _ c.read_schema.ensures (mapped_ok _ c.in_ok-map_err.ensures.cases)
 
-pub returns-in-Bad : goal.returns-in-Bad
+pub returns : goal.returns
 unfolding sheeting delivering
-returns-in-Bad c = search schemas
-
-pub returns-in-Next : goal.returns-in-Next
-unfolding sheeting delivering
-returns-in-Next c = search schemas
+returns c = schema_ok_did _ _ _ c.read_schema.ensures (mapped_ok _ c.in_ok-map_err.ensures.cases) _ _ c.with_schema.ensures

@@ -1,11 +1,8 @@
 -- With the values from variable k on put from here, the buffer is what it shall be.
-use Prim.Native.Nat.{◌-◌}
+-- Rests on `PuttingValues` of Writer.antt.
 use Rattle.schema.specs.Schema.{schema_of, node_at}
 use Rattle.writer.proofs.Writer.{PuttingValues}
 use Rattle.writer.proofs.put_values.Given as goal
 
 abbrev pub invariant-loop-k : goal.invariant-loop-k
 invariant-loop-k l = PuttingValues (node_at (schema_of l.schema) l.n) l.bits l.n l.k l.initial.out l.from l.out l.at
-
-abbrev pub decreases-loop-k : goal.decreases-loop-k
-decreases-loop-k l = l.count - l.k
