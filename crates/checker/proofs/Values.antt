@@ -20,7 +20,7 @@ use Rattle.policies.specs.Policies.{Policy}
 use Rattle.policies.proofs.Nodes.{offset-first, offset-next, span-of-number, span-of-listed}
 use Rattle.instances.specs.File.{value_width, values_width, value_of}
 use Rattle.instances.specs.Plan.{values_from}
-use Rattle.instances.proofs.Node.{vars-more}
+use Rattle.instances.proofs.Node.{vars_more}
 use Rattle.instances.proofs.Lengths.{width-number, width-listed}
 use Rattle.model.specs.Satisfaction.{admitted}
 use Rattle.model.specs.Comparing.{forbidden_value}
@@ -61,7 +61,7 @@ module _ (g : List Node) (ps : List Policy) (n : ℕ) (bits : List ℕ) {X : Fou
     value = get_or bits (4 * n + k) 0
 
     first : drop k (node_at g n).variables ≡ v ∷ vs
-    first = vars-more (node_at g n) k l h refl
+    first = vars_more (node_at g n) k l h refl
 
     widths : values_width (drop k (node_at g n).variables) ≡ value_width v + values_width vs
     unfolding values_width

@@ -1,11 +1,11 @@
 // The checker: the first choice or value field of an instance that a policy in force forbids.
 #![tactic(auto)]
 
-ghost use Rattle.std.specs.Prelude.{◌≡◌, ◌+◌, ◌≤◌};
+ghost use Rattle.std.specs.Prelude.{◌≡◌, ◌+◌, ◌<◌, ◌≤◌, length};
 ghost use Rattle.fields.specs.Answers.{answer_of, refusal};
 ghost use Rattle.schema.specs.Schema.{schema_of, node_at};
-ghost use Rattle.schema.specs.Table.{Accepted, Tabled, Room, NodeIn};
-ghost use Rattle.policies.specs.Rows.{RowsRoom, noted, Noted};
+ghost use Rattle.schema.specs.Table.{Room};
+ghost use Rattle.policies.specs.Rows.{RowsRoom, noted};
 ghost use Rattle.instances.specs.File.{values_width, most_bytes};
 ghost use Rattle.instances.specs.Plan.{planned, nodes_of, values_from, values_slot, plan_of, BitsRoom};
 ghost use Rattle.model.specs.Satisfaction.{choice_meets};
@@ -16,51 +16,40 @@ ghost use Rattle.checker.specs.Checks.{forbidden_in, choosing};
 
 use fields::{Breach, Fault, File, Refusal};
 use instances::{ENTRY_WIDTH, HEAD_WIDTH};
-use nodes::{FEW_NODES, FEW_TABLE_SLOTS, TABLE_SLOTS};
-use policies::ROW_SLOTS;
+use nodes::{FEW_NODES, FEW_TABLE_SLOTS, Schema, TABLE_SLOTS};
+use policies::{Policies, ROW_SLOTS};
 use schema::{MOST_NODES, MOST_VARIABLES};
 
 // Whether every policy that the rows note allows choice x of node n.
-fn choice_allowed(schema: &[u8], table: &[u16], p: &[u8], rows: &[u16], n: usize, x: usize) -> bool
-    requires node_in { NodeIn schema.now table.now n }
-    requires noted { Noted schema.now p.now rows.now }
-    ensures { result ≡ choice_meets (schema_of schema.now) (noted (schema_of schema.now) p.now rows.now) (choosing n x) }
+fn choice_allowed(policies: &Policies, n: usize, x: u8) -> bool
+    requires node_in { n < length (schema_of policies.now.schema.bytes.now) }
+    ensures { result ≡ choice_meets (schema_of policies.now.schema.bytes.now) (noted (schema_of policies.now.schema.bytes.now) policies.now.bytes.now policies.now.rows.now) (choosing n x) }
 {
-    if instances::chooses(schema, table, n) {
-        let k = order::column_of(schema, table, n, x);
-        return ranks::is_allowed(schema, table, p, rows, n, k);
+    if instances::chooses(&policies.schema, n) {
+        let k = order::column_of(&policies.schema, n, x);
+        return ranks::is_allowed(policies, n, k);
     }
     true
 }
 
 // The first of node n's values, which stand from an offset of the file on, that a noted policy does not admit.
 #[tactic(auto, using(crate::proofs::Values::judging_init, crate::proofs::Values::judging_below, crate::proofs::Values::judging_place, crate::proofs::Values::judging_no, crate::proofs::Values::judging_exit))]
-fn first_value(
-    schema: &[u8],
-    table: &[u16],
-    p: &[u8],
-    rows: &[u16],
-    n: usize,
-    bits: &[u32],
-    from: usize,
-) -> Option<usize>
-    requires node_in { NodeIn schema.now table.now n }
-    requires noted { Noted schema.now p.now rows.now }
-    requires bits_room { BitsRoom schema.now bits.now }
-    requires n_bound { from + values_width (node_at (schema_of schema.now) n).variables ≤ most_bytes }
-    ensures { result ≡ forbidden_in (forbidden_value (noted (schema_of schema.now) p.now rows.now) n 0 (node_at (schema_of schema.now) n).variables (values_from (node_at (schema_of schema.now) n).variables bits.now (values_slot n)) from) }
+fn first_value(policies: &Policies, n: usize, bits: &[u32], from: usize) -> Option<usize>
+    requires node_in { n < length (schema_of policies.now.schema.bytes.now) }
+    requires bits_room { BitsRoom policies.now.schema.bytes.now bits.now }
+    requires n_bound { from + values_width (node_at (schema_of policies.now.schema.bytes.now) n).variables ≤ most_bytes }
+    ensures { result ≡ forbidden_in (forbidden_value (noted (schema_of policies.now.schema.bytes.now) policies.now.bytes.now policies.now.rows.now) n 0 (node_at (schema_of policies.now.schema.bytes.now) n).variables (values_from (node_at (schema_of policies.now.schema.bytes.now) n).variables bits.now (values_slot n)) from) }
 {
-    let count = nodes::variable_count(schema, table, n);
-    let mut skip = nodes::rank_count(schema, table, n);
+    let schema = &policies.schema;
+    let mut skip = schema.rank_count(n);
     let mut at = from;
-    for k in 0..count {
-        let value = bits[MOST_VARIABLES * n + k];
-        if !conditions::is_admitted(schema, table, p, rows, n, k, skip, value) {
+    for k in 0..schema.variable_count(n) {
+        if !conditions::is_admitted(policies, n, k, skip, bits[MOST_VARIABLES * n + k]) {
             return Some(at);
         }
-        let v = nodes::variable_of(schema, table, n, k);
+        let v = schema.variable(n, k);
         at += lookup::value_width(v);
-        skip += policies::condition_width(v);
+        skip += policies::span(v);
     }
     None
 }
@@ -68,24 +57,19 @@ fn first_value(
 // The first forbidden field of node n's entry, which stands at an offset of the file.
 #[tactic(auto, using(crate::proofs::Entries::entry_on))]
 fn first_in_entry(
-    schema: &[u8],
-    table: &[u16],
-    p: &[u8],
-    rows: &[u16],
+    policies: &Policies,
     n: usize,
     choices: &[u8; MOST_NODES],
     bits: &[u32],
     at: usize,
 ) -> Option<usize>
-    requires node_in { NodeIn schema.now table.now n }
-    requires noted { Noted schema.now p.now rows.now }
-    requires bits_room { BitsRoom schema.now bits.now }
-    requires n_bound { at + 4 + values_width (node_at (schema_of schema.now) n).variables ≤ most_bytes }
-    ensures { result ≡ forbidden_in (forbidden_entry (schema_of schema.now) (noted (schema_of schema.now) p.now rows.now) (plan_of (schema_of schema.now) choices.now bits.now n) at) }
+    requires node_in { n < length (schema_of policies.now.schema.bytes.now) }
+    requires bits_room { BitsRoom policies.now.schema.bytes.now bits.now }
+    requires n_bound { at + 4 + values_width (node_at (schema_of policies.now.schema.bytes.now) n).variables ≤ most_bytes }
+    ensures { result ≡ forbidden_in (forbidden_entry (schema_of policies.now.schema.bytes.now) (noted (schema_of policies.now.schema.bytes.now) policies.now.bytes.now policies.now.rows.now) (plan_of (schema_of policies.now.schema.bytes.now) choices.now bits.now n) at) }
 {
-    let x = choices[n] as usize;
-    if choice_allowed(schema, table, p, rows, n, x) {
-        return first_value(schema, table, p, rows, n, bits, at + ENTRY_WIDTH);
+    if choice_allowed(policies, n, choices[n]) {
+        return first_value(policies, n, bits, at + ENTRY_WIDTH);
     }
     Some(at + 3)
 }
@@ -94,48 +78,38 @@ fn first_in_entry(
 // first.
 #[tactic(auto, using(crate::proofs::Entries::entries_init, crate::proofs::Entries::entries_room, crate::proofs::Entries::entries_head_fits, crate::proofs::Entries::entries_no, crate::proofs::Entries::entries_fits, crate::proofs::Entries::entries_step, crate::proofs::Entries::entries_exit))]
 fn first_forbidden(
-    schema: &[u8],
-    table: &[u16],
-    p: &[u8],
-    rows: &[u16],
+    policies: &Policies,
     nodes: u64,
     choices: &[u8; MOST_NODES],
     bits: &[u32],
 ) -> Option<usize>
-    requires accepted { Accepted schema.now }
-    requires tabled { Tabled schema.now table.now }
-    requires noted { Noted schema.now p.now rows.now }
-    requires bits_room { BitsRoom schema.now bits.now }
-    requires nodes_value { nodes ≡ nodes_of (planned (schema_of schema.now) (plan_of (schema_of schema.now) choices.now bits.now)) }
-    ensures { result ≡ forbidden_in (forbidden (schema_of schema.now) (noted (schema_of schema.now) p.now rows.now) (planned (schema_of schema.now) (plan_of (schema_of schema.now) choices.now bits.now))) }
+    requires bits_room { BitsRoom policies.now.schema.bytes.now bits.now }
+    requires nodes_value { nodes ≡ nodes_of (planned (schema_of policies.now.schema.bytes.now) (plan_of (schema_of policies.now.schema.bytes.now) choices.now bits.now)) }
+    ensures { result ≡ forbidden_in (forbidden (schema_of policies.now.schema.bytes.now) (noted (schema_of policies.now.schema.bytes.now) policies.now.bytes.now policies.now.rows.now) (planned (schema_of policies.now.schema.bytes.now) (plan_of (schema_of policies.now.schema.bytes.now) choices.now bits.now))) }
 {
     let mut left = nodes;
     let mut at = HEAD_WIDTH;
     while 0 < left {
         let n = numbers::lowest(left);
-        if let Some(offset) = first_in_entry(schema, table, p, rows, n, choices, bits, at) {
+        if let Some(offset) = first_in_entry(policies, n, choices, bits, at) {
             return Some(offset);
         }
-        at = at + ENTRY_WIDTH + lookup::values_width(schema, table, n);
+        at = at + ENTRY_WIDTH + lookup::values_width(&policies.schema, n);
         left = numbers::turned_bit(left, n);
     }
     None
 }
 
-// The instance, once schema, policies and pass are accepted: the rows note the policies in force.
+// The instance, once schema, policies and pass are accepted.
 #[tactic(auto, using(instances::proofs::Slots::bits_64, crate::proofs::Answers::instance_bad))]
-fn in_force(schema: &[u8], table: &[u16], p: &[u8], rows: &[u16], s: &[u8]) -> Result<(), Refusal>
-    requires accepted { Accepted schema.now }
-    requires tabled { Tabled schema.now table.now }
-    requires noted { Noted schema.now p.now rows.now }
-    ensures { answer_of (λ _. 0) result ≡ checking_in_force (schema_of schema.now) (noted (schema_of schema.now) p.now rows.now) s.now }
+fn in_force(policies: &Policies, s: &[u8]) -> Result<(), Refusal>
+    ensures { answer_of (λ _. 0) result ≡ checking_in_force (schema_of policies.now.schema.bytes.now) (noted (schema_of policies.now.schema.bytes.now) policies.now.bytes.now policies.now.rows.now) s.now }
 {
     let mut choices = [255u8; MOST_NODES];
     let mut bits = [0u32; MOST_VARIABLES * MOST_NODES];
-    let nodes = instance_reader::read_instance(schema, table, s, &mut choices, &mut bits).map_err(
-        |breach| breach.of(File::Instance),
-    )?;
-    match first_forbidden(schema, table, p, rows, nodes, &choices, &bits) {
+    let read = instance_reader::read_instance(&policies.schema, s, &mut choices, &mut bits);
+    let nodes = read.map_err(|breach| breach.of(File::Instance))?;
+    match first_forbidden(policies, nodes, &choices, &bits) {
         None => Ok(()),
         Some(offset) => Err(Breach::new(Fault::Forbidden, offset).of(File::Instance)),
     }
@@ -144,44 +118,36 @@ fn in_force(schema: &[u8], table: &[u16], p: &[u8], rows: &[u16], s: &[u8]) -> R
 // Policies and pass, once the schema is accepted, with room for the rows.
 #[tactic(auto, using(inputs::proofs::Above::in_force_noted, inputs::proofs::Above::in_force_bad, inputs::proofs::Above::in_force_checked))]
 fn with_rows(
-    schema: &[u8],
-    table: &[u16],
+    schema: &Schema,
     p: &[u8],
     a: u16,
     b: u16,
     s: &[u8],
     rows: &mut [u16],
 ) -> Result<(), Refusal>
-    requires accepted { Accepted schema.now }
-    requires tabled { Tabled schema.now table.now }
-    requires rows_room { RowsRoom schema.now rows.old }
-    ensures { answer_of (λ _. 0) result ≡ with_in_force refusal (schema_of schema.now) p.now a b (λ ps. checking_in_force (schema_of schema.now) ps s.now) }
+    requires { RowsRoom schema.now.bytes.now rows.old }
+    ensures { answer_of (λ _. 0) result ≡ with_in_force refusal (schema_of schema.now.bytes.now) p.now a b (λ ps. checking_in_force (schema_of schema.now.bytes.now) ps s.now) }
 {
-    inputs::read_in_force(schema, table, p, a, b, rows)?;
-    in_force(schema, table, p, rows, s)
+    inputs::read_in_force(schema, p, a, b, rows)?;
+    let policies = Policies {
+        schema: *schema,
+        bytes: p,
+        rows,
+    };
+    in_force(&policies, s)
 }
 
 // Policies and pass, once the schema is accepted; few nodes have few rows, which are sooner cleared.
 #[tactic(auto, using(inputs::proofs::Above::rows_16, inputs::proofs::Above::rows_64))]
-fn with_schema(
-    schema: &[u8],
-    table: &[u16],
-    p: &[u8],
-    a: u16,
-    b: u16,
-    s: &[u8],
-) -> Result<(), Refusal>
-    requires accepted { Accepted schema.now }
-    requires tabled { Tabled schema.now table.now }
-    ensures { answer_of (λ _. 0) result ≡ with_in_force refusal (schema_of schema.now) p.now a b (λ ps. checking_in_force (schema_of schema.now) ps s.now) }
+fn with_schema(schema: &Schema, p: &[u8], a: u16, b: u16, s: &[u8]) -> Result<(), Refusal>
+    ensures { answer_of (λ _. 0) result ≡ with_in_force refusal (schema_of schema.now.bytes.now) p.now a b (λ ps. checking_in_force (schema_of schema.now.bytes.now) ps s.now) }
 {
-    let count = nodes::count_of(schema);
-    if count <= FEW_NODES {
+    if schema.node_count() <= FEW_NODES {
         let mut rows = [0u16; ROW_SLOTS * FEW_NODES];
-        return with_rows(schema, table, p, a, b, s, &mut rows);
+        return with_rows(schema, p, a, b, s, &mut rows);
     }
     let mut rows = [0u16; ROW_SLOTS * MOST_NODES];
-    with_rows(schema, table, p, a, b, s, &mut rows)
+    with_rows(schema, p, a, b, s, &mut rows)
 }
 
 // The schema, with room for its tables, then the rest.
@@ -199,7 +165,11 @@ fn with_tables(
     ensures { answer_of (λ _. 0) result ≡ checking schema.now p.now a b s.now }
 {
     schema::read_schema(schema, table, sets).map_err(|breach| breach.of(File::Schema))?;
-    with_schema(schema, table, p, a, b, s)
+    let schema = Schema {
+        bytes: schema,
+        table,
+    };
+    with_schema(&schema, p, a, b, s)
 }
 
 // The answer for schema, policies, a pass from day a to day b and an instance; few nodes have short tables, which are sooner

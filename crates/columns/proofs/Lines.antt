@@ -19,7 +19,7 @@ use Rattle.schema.specs.declared.Variable.{Variable}
 use Rattle.instances.specs.Instance.{Entry}
 use Rattle.instances.specs.File.{value_of}
 use Rattle.instances.specs.Plan.{nodes_of, values_from, plan_of, held}
-use Rattle.instances.proofs.Node.{vars-more}
+use Rattle.instances.proofs.Node.{vars_more}
 use Rattle.instances.proofs.Walk.{Walk, AtNode, AtEnd, held-count, walk-exit, walk_first, walk-holds, walk_step}
 use Rattle.columns.specs.Sheet.{spaces, right_aligned, signed_decimal, choice_column, value_columns, sheet_line, sheet, line_bytes}
 use Rattle.columns.proofs.Columns.{spaces_wrote, spaces_long}
@@ -51,7 +51,7 @@ module _ (x : Node) (bits : List ℕ) (n k : ℕ) (b₀ : List ℕ) (from : ℕ)
       let text = right_aligned 11 (signed_decimal (value_of v (get_or bits (4 * n + k) 0))) in
       let j : 4 - k ≡ suc (4 - (k + 1)) = omega arith in
       let i : 4 * n + (k + 1) ≡ 4 * n + k + 1 = omega arith in
-      let m : columns_from x bits n k ≡ (spaces 1 ++ text) ++ columns_from x bits n (k + 1) = rw (vars-more x k l h e, j, i) in
+      let m : columns_from x bits n k ≡ (spaces 1 ++ text) ++ columns_from x bits n (k + 1) = rw (vars_more x k l h e, j, i) in
       record {
         done = putting-step (spaces 1 ++ text) (columns_from x bits n (k + 1)) (rw m at w.done) (omega arith) q y;
         offset = omega arith;

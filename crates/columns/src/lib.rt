@@ -6,11 +6,11 @@ ghost use Rattle.fields.specs.Writing.{Wrote};
 ghost use Rattle.decimals.specs.Decimal.{decimal};
 ghost use Rattle.numbers.specs.Bits.{cardinality};
 ghost use Rattle.schema.specs.Schema.{schema_of, node_at};
-ghost use Rattle.schema.specs.Table.{Tabled, Accepted, NodeIn};
 ghost use Rattle.instances.specs.File.{value_of};
 ghost use Rattle.instances.specs.Plan.{nodes_of, values_from, values_slot, plan_of, held, BitsRoom};
 ghost use Rattle.columns.specs.Sheet.{spaces, right_aligned, signed_decimal, choice_column, value_columns, sheet_line, sheet, line_bytes};
 
+use nodes::Schema;
 use schema::{MOST_NODES, MOST_VARIABLES, Variable};
 
 // The columns of a node, and of a choice and a value with the space before each.
@@ -76,15 +76,15 @@ fn put_value(v: Variable, u: u32, out: &mut [u8], at: usize)
 }
 
 // Node n's values, a space before each, and spaces for those that it does not have.
-fn put_values(schema: &[u8], table: &[u16], n: usize, bits: &[u32], out: &mut [u8], from: usize)
-    requires node_in { NodeIn schema.now table.now n }
-    requires bits_room { BitsRoom schema.now bits.now }
+fn put_values(schema: &Schema, n: usize, bits: &[u32], out: &mut [u8], from: usize)
+    requires node_in { n < length (schema_of schema.now.bytes.now) }
+    requires bits_room { BitsRoom schema.now.bytes.now bits.now }
     requires from_in_bounds { from + 48 ≤ length out.old }
-    ensures { Wrote out.old from (value_columns 4 (values_from (node_at (schema_of schema.now) n).variables bits.now (values_slot n))) out.new (from + 48) }
+    ensures { Wrote out.old from (value_columns 4 (values_from (node_at (schema_of schema.now.bytes.now) n).variables bits.now (values_slot n))) out.new (from + 48) }
 {
     let mut at = from;
-    for k in 0..nodes::variable_count(schema, table, n) {
-        let v = nodes::variable_of(schema, table, n, k);
+    for k in 0..schema.variable_count(n) {
+        let v = schema.variable(n, k);
         put_value(v, bits[MOST_VARIABLES * n + k], out, at);
         at += VALUE_WIDTH;
     }
@@ -93,47 +93,43 @@ fn put_values(schema: &[u8], table: &[u16], n: usize, bits: &[u32], out: &mut [u
 
 // The line of node n's entry, as the arrays hold it.
 fn put_line(
-    schema: &[u8],
-    table: &[u16],
+    schema: &Schema,
     n: usize,
     choices: &[u8; MOST_NODES],
     bits: &[u32],
     out: &mut [u8],
     at: usize,
 )
-    requires node_in { NodeIn schema.now table.now n }
-    requires bits_room { BitsRoom schema.now bits.now }
+    requires node_in { n < length (schema_of schema.now.bytes.now) }
+    requires bits_room { BitsRoom schema.now.bytes.now bits.now }
     requires line_bytes_in_bounds { at + line_bytes ≤ length out.old }
-    ensures { Wrote out.old at (sheet_line (plan_of (schema_of schema.now) choices.now bits.now n)) out.new (at + line_bytes) }
+    ensures { Wrote out.old at (sheet_line (plan_of (schema_of schema.now.bytes.now) choices.now bits.now n)) out.new (at + line_bytes) }
 {
     put_right(out, at, NODE_WIDTH, n as u64);
     put_choice(out, at + NODE_WIDTH, choices[n]);
-    put_values(schema, table, n, bits, out, at + NODE_WIDTH + CHOICE_WIDTH);
+    put_values(schema, n, bits, out, at + NODE_WIDTH + CHOICE_WIDTH);
     out[at + NODE_WIDTH + CHOICE_WIDTH + VALUES_WIDTH] = b'\n';
 }
 
 // The sheet of the instance that the arrays hold, whose nodes are these, at the start of a buffer that has room for it: the
 // lowest node's line first.
 pub fn put_sheet(
-    schema: &[u8],
-    table: &[u16],
+    schema: &Schema,
     nodes: u64,
     choices: &[u8; MOST_NODES],
     bits: &[u32],
     out: &mut [u8],
 ) -> usize
-    requires accepted { Accepted schema.now }
-    requires tabled { Tabled schema.now table.now }
-    requires bits_room { BitsRoom schema.now bits.now }
-    requires nodes_value { nodes ≡ nodes_of (held schema.now choices.now bits.now) }
+    requires bits_room { BitsRoom schema.now.bytes.now bits.now }
+    requires nodes_value { nodes ≡ nodes_of (held schema.now.bytes.now choices.now bits.now) }
     requires nodes_in_bounds { line_bytes * cardinality nodes ≤ length out.old }
-    ensures { Wrote out.old 0 (sheet (held schema.now choices.now bits.now)) out.new result }
+    ensures { Wrote out.old 0 (sheet (held schema.now.bytes.now choices.now bits.now)) out.new result }
 {
     let mut left = nodes;
     let mut at: usize = 0;
     while 0 < left {
         let n = numbers::lowest(left);
-        put_line(schema, table, n, choices, bits, out, at);
+        put_line(schema, n, choices, bits, out, at);
         at += LINE_BYTES;
         left = numbers::turned_bit(left, n);
     }

@@ -12,7 +12,7 @@ use lib.ListN.{length, get_or, set, replicate, length-set, length-replicate}
 use lib.Seq.{get_or-set_same, get_or-set_other}
 use Rattle.fields.proofs.Bytes.{Bytes}
 use Rattle.schema.specs.Schema.{Node, schema_of}
-use Rattle.schema.specs.Table.{Tabled, Accepted, NodeIn, AtMost}
+use Rattle.schema.specs.Table.{Accepted, AtMost}
 use Rattle.schema.proofs.Sound.{Sound}
 use Rattle.schema.proofs.Accepted.{sound}
 use Rattle.policies.specs.Policies.{Policy}
@@ -69,8 +69,8 @@ module _ (schema p rows first second : List ℕ) where
       }
 
   module _ (flags : List ℕ) (n : ℕ) (w : Flagging schema p rows first second flags n) where
-    pub flagging_node : (table : List ℕ) → 0 < n → Tabled schema table → NodeIn schema table (n - 1)
-    flagging_node table h e = record { table = e; below = let z = w.below in omega arith }
+    pub flagging_node : 0 < n → n - 1 < length g
+    flagging_node h = let z = w.below in omega arith
 
     pub flagging_small : 0 < n → n - 1 < 64
     flagging_small h = let z = w.below in let y = w.sound.few in omega arith

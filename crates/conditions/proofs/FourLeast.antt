@@ -1,130 +1,121 @@
--- The least values of four numbers: their bits are stored, then each range is tested.
--- Rests on the laws of one range and of a node's values, in Least, and on what four numbers tell, in Numbers.
+-- The least values of four numbers: the bits of the lower bounds are stored, and each range is asked whether it has a value.
+-- Rests on the laws of a node's values, in Least, and on what four numbers tell, in Numbers.
 use mathlib.Core.Path.{◌≡◌, refl, ap, sym, ◌∙◌}
-use mathlib.Core.Bool.{true, false}
-use mathlib.Core.List.{List}
-use mathlib.Core.Option.{some}
-use Prim.Native.Nat.{ℕ, ◌+◌, ◌*◌, ◌<◌, ◌^◌}
+use mathlib.Core.Bool.{Bool, true, ◌&&◌}
+use mathlib.Core.List.{List, []}
+use mathlib.Core.Option.{Option, none, some}
+use Prim.Native.Nat.{ℕ, zero, suc, ◌+◌, ◌*◌, ◌≤◌, ◌<◌, ◌^◌}
 use native.Mathlib.Omega.{arith}
-use native.Mathlib.Nat.{add-zero}
-use lib.ListN.{length, get_or, set, take, length-set}
+use native.Mathlib.Decide.{dec_lt}
+use lib.ListN.{length, get_or, set}
 use lib.Seq.{get_or-set_same, get_or-set_other}
-use lib.IntN.{pos}
-use lib.Signed.{lt_z, mag}
+use lib.IntN.{ℤ, pos}
+use lib.Signed.{le_z, mag}
 use mir.Syntax.{w32}
 use mir.Val.{to_z, of_z}
-use Rattle.fields.specs.Writing.{unsigned}
-use Rattle.schema.specs.Schema.{Node, schema_of, node_at, no_variable}
-use Rattle.schema.specs.Table.{NodeIn}
+use Rattle.fields.proofs.Tests.{and-true, never}
+use Rattle.schema.specs.Schema.{Node, schema_of, node_at, no_variable, is_number}
+use Rattle.schema.specs.declared.Variable.{Variable}
+use Rattle.schema.specs.declared.Variable.TheVariants.{Number, Listed}
 use Rattle.policies.specs.Policies.{mask, Policy}
-use Rattle.policies.specs.Rows.{rules_at}
 use Rattle.instances.specs.File.{value_of}
 use Rattle.instances.specs.Plan.{BitsRoom}
-use Rattle.model.specs.Reconciling.{combined, least}
+use Rattle.model.specs.Reconciling.{combined, is_some, least, least_each, with_head}
 use Rattle.conditions.specs.Least.{LeastIn, range_in, ranges_in}
 use Rattle.conditions.specs.Rules.{four_numbers}
 use Rattle.conditions.specs.declared.Conditions.{Conditions}
-use Rattle.conditions.proofs.Least.{Outside, outside-init, outside_set, least-none, least-all, range_none, range-some}
-use Rattle.conditions.proofs.Numbers.{below-four, four-length, four_below, every-number, number_at}
+use Rattle.conditions.proofs.Least.{Outside, outside-init, outside_set, each-some, left-range}
+use Rattle.conditions.proofs.Narrowing.{kept}
+use Rattle.conditions.proofs.Numbers.{below-four, four-length, every-number, number_at}
 
-module _ (s table p : List ℕ) (n count : ℕ) (offsets t : List ℕ) (y : NodeIn s table n) (room : BitsRoom s t) where
-  inside : (k : ℕ) → k < 4 → 4 * n + k < length t
-  inside k h = omega (arith, room.long, y.below)
+-- ---- four ranges, each with its lower bound as the least value
 
-  pub second-slot : (a : ℕ) → 4 * n + 1 < length (set t (4 * n) a)
-  second-slot a = omega (arith, inside 1 (omega arith), length-set t (4 * n) a)
+range-in : (c : Conditions) (k : ℕ) → k < 4 → get_or (ranges_in c) k (mask 0) ≡ range_in c k
+unfolding ranges_in
+range-in c zero h = refl
+range-in c (suc zero) h = refl
+range-in c (suc (suc zero)) h = refl
+range-in c (suc (suc (suc zero))) h = refl
+range-in c (suc (suc (suc (suc k)))) h = absurd (omega arith)
 
-  pub third-slot : (a b : ℕ) → 4 * n + 2 < length (set (set t (4 * n) a) (4 * n + 1) b)
-  third-slot a b = omega (arith, inside 2 (omega arith), length-set t (4 * n) a, length-set (set t (4 * n) a) (4 * n + 1) b)
+-- whether each of four has one
+all-some : (o p q r : Option ℤ) → is_some (with_head o (with_head p (with_head q (with_head r (some []))))) ≡ (((is_some o && is_some p) && is_some q) && is_some r)
+all-some none p q r = refl
+all-some (some x) none q r = refl
+all-some (some x) (some y) none r = refl
+all-some (some x) (some y) (some z) none = refl
+all-some (some x) (some y) (some z) (some u) = refl
 
-  pub fourth-slot : (a b c : ℕ) → 4 * n + 3 < length (set (set (set t (4 * n) a) (4 * n + 1) b) (4 * n + 2) c)
-  fourth-slot a b c =
-      omega (arith, inside 3 (omega arith), length-set t (4 * n) a, length-set (set t (4 * n) a) (4 * n + 1) b, length-set (set (set t (4 * n) a) (4 * n + 1) b) (4 * n + 2) c)
+module _ (c : Conditions) where
+  abbrev left : ℕ → Bool
+  left k = is_some (least (range_in c k))
 
-  module _ (c : Conditions) (f : four_numbers (node_at (schema_of s) n).variables ≡ true) (i : ranges_in c ≡ combined (schema_of s) (rules_at (schema_of s) p n (take count offsets)) n) (u v w x : ℕ) where
-    abbrev g : List Node
-    g = schema_of s
+  all-left : is_some (least_each (ranges_in c)) ≡ (((left 0 && left 1) && left 2) && left 3)
+  unfolding ranges_in least_each
+  all-left = all-some (least (range_in c 0)) (least (range_in c 1)) (least (range_in c 2)) (least (range_in c 3))
 
-    abbrev qs : List Policy
-    qs = rules_at g p n (take count offsets)
+  pub numbers_left : {w x y z : Bool} → w ≡ left 0 → x ≡ left 1 → y ≡ left 2 → z ≡ left 3 → (((w && x) && y) && z) ≡ is_some (least_each (ranges_in c))
+  numbers_left ew ex ey ez = rw (ew, ex, ey, ez) (sym all-left)
 
-    -- the bits, as the code stores them
-    abbrev one : List ℕ
-    one = set t (4 * n) u
+  each-left : is_some (least_each (ranges_in c)) ≡ true → (k : ℕ) → k < 4 → left k ≡ true
+  each-left q =
+      let t = and-true ((left 0 && left 1) && left 2) (left 3) (sym all-left ∙ q) in
+      let u = and-true (left 0 && left 1) (left 2) t.0 in
+      let v = and-true (left 0) (left 1) u.0 in
+      below-four (λ k. left k ≡ true) v.0 v.1 u.1 t.1
 
-    abbrev two : List ℕ
-    two = set one (4 * n + 1) v
+  each-has : is_some (least_each (ranges_in c)) ≡ true → (k : ℕ) → k < 4 → le_z (get_or c.lo k (pos 0)) (get_or c.hi k (pos 0)) ≡ true
+  each-has q k h = sym (left-range (get_or c.lo k (pos 0)) (get_or c.hi k (pos 0))) ∙ each-left q k h
 
-    abbrev three : List ℕ
-    three = set two (4 * n + 2) w
+number-value : (v : Variable) (u : ℕ) → is_number v ≡ true → value_of v u ≡ to_z w32 u
+unfolding value_of
+number-value (Number lo hi) u e = refl
+number-value (Listed size) u e = never e
 
-    abbrev stored : List ℕ
-    stored = set three (4 * n + 3) x
+-- ---- the bits of the lower bounds before k stand in their slots
 
-    outside : Outside n t stored
-    outside =
-        outside_set n t three
-        (outside_set n t two
-        (outside_set n t one
-        (outside_set n t t (outside-init n t) (4 * n) u (omega arith) (omega arith))
-        (4 * n + 1) v (omega arith) (omega arith))
-        (4 * n + 2) w (omega arith) (omega arith))
-        (4 * n + 3) x (omega arith) (omega arith)
+pub record Stored (c : Conditions) (n k : ℕ) (t₀ t : List ℕ) : Type 0 where
+  pub each : (i : ℕ) → i < k → to_z w32 (get_or t (4 * n + i) 0) ≡ get_or c.lo i (pos 0)
+  pub outside : Outside n t₀ t
 
-    held : (k : ℕ) → k < 4 → get_or (combined g qs n) k (mask 0) ≡ range_in c k
-    unfolding ranges_in
-    held = below-four (λ k. get_or (combined g qs n) k (mask 0) ≡ range_in c k) (rw (sym i) refl) (rw (sym i) refl) (rw (sym i) refl) (rw (sym i) refl)
+pub stored_init : (c : Conditions) (n : ℕ) (t : List ℕ) → Stored c n 0 t t
+stored_init c n t = record { each = λ i h. absurd (omega arith); outside = outside-init n t }
 
-    pub four-none : (k : ℕ) → lt_z (to_z w32 (of_z w32 (get_or c.hi k (pos 0)))) (to_z w32 (of_z w32 (get_or c.lo k (pos 0)))) ≡ true → k < 4
-        → mag (get_or c.lo k (pos 0)) < 2 ^ 31 → mag (get_or c.hi k (pos 0)) < 2 ^ 31 → LeastIn g n (combined g qs n) t stored false
-    four-none k o h fl fh =
-        least-none g qs n outside k (four_below (node_at g n).variables k f h) (ap least (held k h) ∙ range_none (get_or c.lo k (pos 0)) (get_or c.hi k (pos 0)) fl fh o)
+module _ (s : List ℕ) (c : Conditions) (n k : ℕ) (t₀ t : List ℕ) (w : Stored c n k t₀ t) (h : n < length (schema_of s)) (room : BitsRoom s t₀) (l : k < 4) where
+  pub stored_slot : 4 * n + k < length t
+  stored_slot = omega (arith, w.outside.long, room.long)
 
-    -- the bits in each slot
-    slot-first : get_or stored (4 * n + 0) 0 ≡ u
-    slot-first =
-        get_or-set_other three (4 * n + 3) (4 * n + 0) x 0 (λ e. omega arith)
-        ∙ get_or-set_other two (4 * n + 2) (4 * n + 0) w 0 (λ e. omega arith)
-        ∙ get_or-set_other one (4 * n + 1) (4 * n + 0) v 0 (λ e. omega arith)
-        ∙ ap (λ (j : ℕ). get_or one j 0) (add-zero (4 * n))
-        ∙ get_or-set_same t (4 * n) u 0 (omega (arith, inside 0 (omega arith)))
+  pub stored_step : (u : ℕ) → mag (get_or c.lo k (pos 0)) < 2 ^ 31 → u ≡ of_z w32 (to_z w32 (of_z w32 (get_or c.lo k (pos 0)))) → Stored c n (k + 1) t₀ (set t (4 * n + k) u)
+  stored_step u f e = record { each = λ i j. one i j (dec_lt i k); outside = outside_set n t₀ t w.outside (4 * n + k) u (omega arith) (omega arith) }
+    where
+      one : (i : ℕ) → i < k + 1 → Dec (i < k) → to_z w32 (get_or (set t (4 * n + k) u) (4 * n + i) 0) ≡ get_or c.lo i (pos 0)
+      one i j (yes y) = ap (to_z w32) (get_or-set_other t (4 * n + k) (4 * n + i) u 0 (λ z. omega arith)) ∙ w.each i y
+      one i j (no y) =
+          let q : i ≡ k = omega arith in
+          rw q
+          (ap (to_z w32) (get_or-set_same t (4 * n + k) u 0 stored_slot ∙ e ∙ ap (of_z w32) (kept (get_or c.lo k (pos 0)) f))
+          ∙ kept (get_or c.lo k (pos 0)) f)
 
-    slot-second : get_or stored (4 * n + 1) 0 ≡ v
-    slot-second =
-        get_or-set_other three (4 * n + 3) (4 * n + 1) x 0 (λ e. omega arith)
-        ∙ get_or-set_other two (4 * n + 2) (4 * n + 1) w 0 (λ e. omega arith)
-        ∙ get_or-set_same one (4 * n + 1) v 0 (second-slot u)
+-- all four do
+module _ (g : List Node) (qs : List Policy) (c : Conditions) (n k : ℕ) (t₀ t : List ℕ) (w : Stored c n k t₀ t) (f : four_numbers (node_at g n).variables ≡ true)
+    (e : ranges_in c ≡ combined g qs n) (l : 4 ≤ k) where
+  abbrev vs : List Variable
+  vs = (node_at g n).variables
 
-    slot-third : get_or stored (4 * n + 2) 0 ≡ w
-    slot-third = get_or-set_other three (4 * n + 3) (4 * n + 2) x 0 (λ e. omega arith) ∙ get_or-set_same two (4 * n + 2) w 0 (third-slot u v)
+  value-at : is_some (least_each (ranges_in c)) ≡ true → (i : ℕ) → i < length vs → least (get_or (ranges_in c) i (mask 0)) ≡ some (value_of (get_or vs i no_variable) (get_or t (4 * n + i) 0))
+  unfolding least
+  value-at q i h =
+      let j : i < 4 = omega (arith, four-length vs f) in
+      rw (range-in c i j, each-has c q i j)
+      (ap {B = Option ℤ} some (sym (number-value (get_or vs i no_variable) (get_or t (4 * n + i) 0) (number_at vs i (every-number vs f) h) ∙ w.each i (omega arith))))
 
-    slot-fourth : get_or stored (4 * n + 3) 0 ≡ x
-    slot-fourth = get_or-set_same three (4 * n + 3) x 0 (fourth-slot u v w)
-
-    -- variable k has a value, whose bits are r
-    abbrev Has : ℕ → ℕ → Type 0
-    Has k r = least (get_or (combined g qs n) k (mask 0)) ≡ some (value_of (get_or (node_at g n).variables k no_variable) r)
-
-    has : (k r : ℕ) → k < 4 → r ≡ unsigned (to_z w32 (of_z w32 (get_or c.lo k (pos 0)))) → mag (get_or c.lo k (pos 0)) < 2 ^ 31 → mag (get_or c.hi k (pos 0)) < 2 ^ 31
-        → lt_z (to_z w32 (of_z w32 (get_or c.hi k (pos 0)))) (to_z w32 (of_z w32 (get_or c.lo k (pos 0)))) ≡ false → Has k r
-    has k r h e fl fh o =
-        let vs = (node_at g n).variables in
-        ap least (held k h)
-        ∙ range-some (get_or c.lo k (pos 0)) (get_or c.hi k (pos 0)) fl fh (get_or vs k no_variable) (number_at vs k (every-number vs f) (four_below vs k f h)) o e
-
-    module _ (eu : u ≡ unsigned (to_z w32 (of_z w32 (get_or c.lo 0 (pos 0))))) (ev : v ≡ unsigned (to_z w32 (of_z w32 (get_or c.lo 1 (pos 0)))))
-        (ew : w ≡ unsigned (to_z w32 (of_z w32 (get_or c.lo 2 (pos 0))))) (ex : x ≡ unsigned (to_z w32 (of_z w32 (get_or c.lo 3 (pos 0))))) where
-      pub four-all : lt_z (to_z w32 (of_z w32 (get_or c.hi 0 (pos 0)))) (to_z w32 (of_z w32 (get_or c.lo 0 (pos 0)))) ≡ false
-          → lt_z (to_z w32 (of_z w32 (get_or c.hi 1 (pos 0)))) (to_z w32 (of_z w32 (get_or c.lo 1 (pos 0)))) ≡ false
-          → lt_z (to_z w32 (of_z w32 (get_or c.hi 2 (pos 0)))) (to_z w32 (of_z w32 (get_or c.lo 2 (pos 0)))) ≡ false
-          → lt_z (to_z w32 (of_z w32 (get_or c.hi 3 (pos 0)))) (to_z w32 (of_z w32 (get_or c.lo 3 (pos 0)))) ≡ false
-          → mag (get_or c.lo 0 (pos 0)) < 2 ^ 31 → mag (get_or c.lo 1 (pos 0)) < 2 ^ 31 → mag (get_or c.lo 2 (pos 0)) < 2 ^ 31 → mag (get_or c.lo 3 (pos 0)) < 2 ^ 31
-          → mag (get_or c.hi 0 (pos 0)) < 2 ^ 31 → mag (get_or c.hi 1 (pos 0)) < 2 ^ 31 → mag (get_or c.hi 2 (pos 0)) < 2 ^ 31 → mag (get_or c.hi 3 (pos 0)) < 2 ^ 31
-          → LeastIn g n (combined g qs n) t stored true
-      four-all o₀ o₁ o₂ o₃ l₀ l₁ l₂ l₃ h₀ h₁ h₂ h₃ =
-          let each = below-four (λ k. Has k (get_or stored (4 * n + k) 0))
-          (rw slot-first (has 0 u (omega arith) eu l₀ h₀ o₀))
-          (rw slot-second (has 1 v (omega arith) ev l₁ h₁ o₁))
-          (rw slot-third (has 2 w (omega arith) ew l₂ h₂ o₂))
-          (rw slot-fourth (has 3 x (omega arith) ex l₃ h₃ o₃)) in
-          least-all g qs n outside (λ k h. each k (omega (arith, four-length (node_at g n).variables f)))
+  pub stored_exit : {r : Bool} → r ≡ is_some (least_each (ranges_in c)) → LeastIn g n (combined g qs n) t₀ t r
+  unfolding ranges_in
+  stored_exit {r} a =
+      rw (← e)
+      (record {
+        found = a;
+        values = λ y. each-some vs (ranges_in c) t (4 * n) (sym (four-length vs f)) (value-at (sym a ∙ y));
+        others = w.outside.others;
+        long = w.outside.long;
+      })

@@ -1,44 +1,45 @@
 -- The least values left at a node: each variable's own, found one after the other; the first without one ends it.
 -- Rests on the model's `least`, on bits that are read back as the value, and on what the conditions at the offsets leave, in Rules.
-use mathlib.Core.Path.{◌≡◌, refl, ap, ap₂, sym, subst, ◌∙◌}
+use mathlib.Core.Path.{◌≡◌, refl, ap, ap₂, sym, ◌∙◌}
 use mathlib.Core.Logic.{◌⊎◌, inl, inr}
-use mathlib.Core.Bool.{true, false}
+use mathlib.Core.Bool.{Bool, true, false, cond}
 use mathlib.Core.List.{List, [], ◌∷◌}
 use mathlib.Core.Option.{Option, none, some}
 use Prim.Native.Nat.{ℕ, zero, suc, ◌+◌, ◌*◌, ◌≤◌, ◌<◌, ◌^◌}
 use native.Mathlib.Omega.{arith}
 use native.Mathlib.Nat.{add-zero, zero-add}
 use native.Mathlib.Decide.{dec_lt}
-use borrow.Author.Tests.{eq-eqb, ne_eqb, ltb-true, ltb-false, le-leb, lt-leb}
-use lib.ListN.{length, get_or, take, set, replicate, length-set, length-replicate}
+use borrow.Author.Tests.{eq-eqb, ne_eqb}
+use lib.ListN.{length, get_or, set, length-set}
 use lib.Seq.{get_or-set_same, get_or-set_other}
-use lib.IntN.{ℤ, pos, negsuc}
-use lib.Signed.{lt_z, le_z, mag}
-use mir.Syntax.{w32}
-use mir.Val.{to_z, of_z}
-use Rattle.fields.specs.Reading.{signed}
-use Rattle.fields.specs.Writing.{unsigned}
-use Rattle.fields.proofs.Bytes.{Bytes}
+use lib.IntN.{ℤ, pos}
+use lib.Signed.{le_z, mag}
+use mir.Syntax.{w32, w64}
+use mir.Val.{Fits, to_z, of_z}
+use Rattle.std.specs.Prelude.{None, Some}
 use Rattle.fields.proofs.Tests.{never}
 use Rattle.numbers.specs.Bits.{ones}
 use Rattle.numbers.specs.Lowest.{Lowest}
-use Rattle.schema.specs.Schema.{Node, schema_of, node_at, no_variable, is_number}
-use Rattle.schema.specs.Table.{NodeIn, AtMost}
+use Rattle.schema.specs.Schema.{Node, schema_of, node_at, no_variable, variable_at, is_number}
+use Rattle.schema.specs.Table.{AtMost}
 use Rattle.schema.specs.declared.Variable.{Variable}
 use Rattle.schema.specs.declared.Variable.TheVariants.{Number, Listed}
 use Rattle.schema.specs.Layout.{rank_count, span, offset_of}
-use Rattle.schema.proofs.Sound.{SoundVariable, SoundVariables}
-use Rattle.schema.proofs.Access.{here}
+use Rattle.schema.proofs.Sound.{SoundVariables}
+use Rattle.schema.proofs.Accepted.{sound_of}
 use Rattle.policies.specs.Policies.{Condition, range, mask, Policy}
-use Rattle.policies.specs.Rows.{rules_at, RulesAt, BytesAt}
-use Rattle.policies.proofs.Nodes.{offset-first, offset-next, span-of-number, span-of-listed}
+use Rattle.policies.specs.Rows.{rules_at, noted, offsets_in, RulesAt, BytesAt}
+use Rattle.policies.specs.declared.Policies.{Policies}
+use Rattle.policies.proofs.Nodes.{offset-first, offset-next}
 use Rattle.instances.specs.File.{value_of}
 use Rattle.instances.specs.Plan.{values_from, BitsRoom}
 use Rattle.model.specs.Reconciling.{own, restrict_all, combined_from, combined, is_some, least, least_each, with_head}
 use Rattle.model.proofs.Values.{combined-at}
-use Rattle.conditions.specs.Least.{LeastIn}
-use Rattle.conditions.specs.Rules.{range_at, mask_at, narrowed_by}
-use Rattle.conditions.proofs.Rules.{ConditionIn, ranges-bytes, ranges-left, masks-bytes, masks-left}
+use Rattle.conditions.specs.Least.{LeastIn, range_in, condition_of}
+use Rattle.conditions.specs.declared.Conditions.{Conditions}
+use Rattle.conditions.specs.Rules.{range_at, mask_at, condition_in, value_in, narrowed_by, size_of}
+use Rattle.conditions.proofs.Rules.{ConditionIn, ranges_bytes, ranges-left, masks_bytes, masks-left}
+use Rattle.conditions.proofs.Row.{row_combined}
 use Rattle.conditions.proofs.Narrowing.{kept}
 
 -- ---- conditions, each with the least value that it leaves
@@ -58,7 +59,7 @@ each_none (c ∷ cs) (suc k) h e = rw (each_none cs k (omega arith) e) (go (leas
     go none = refl
     go (some x) = refl
 
-each-some : (vs : List Variable) (cs : List Condition) (t : List ℕ) (b : ℕ) → length cs ≡ length vs
+pub each-some : (vs : List Variable) (cs : List Condition) (t : List ℕ) (b : ℕ) → length cs ≡ length vs
     → ((k : ℕ) → k < length vs → least (get_or cs k (mask 0)) ≡ some (value_of (get_or vs k no_variable) (get_or t (b + k) 0)))
     → least_each cs ≡ some (values_from vs t b)
 unfolding least_each values_from
@@ -72,31 +73,70 @@ each-some (v ∷ vs) (c ∷ cs) t b l f =
     ∙ ap {B = Option ℤ} (λ (i : ℕ). some (value_of (get_or vs k no_variable) (get_or t i 0))) (let z : b + suc k ≡ b + 1 + k = omega arith in z)) in
     rw (x, y)
 
--- one range, as the code tests it and takes its least value
-lt_not_le : (a b : ℤ) → lt_z a b ≡ true → le_z b a ≡ false
-lt_not_le (pos a) (pos b) t = lt-leb b a (ltb-true a b t)
-lt_not_le (pos a) (negsuc b) t = never t
-lt_not_le (negsuc a) (pos b) t = refl
-lt_not_le (negsuc a) (negsuc b) t = lt-leb a b (ltb-true b a t)
+-- ---- one variable: what the record holds of it, and the least value that is left
 
-not-lt-le : (a b : ℤ) → lt_z a b ≡ false → le_z b a ≡ true
-not-lt-le (pos a) (pos b) t = le-leb b a (ltb-false a b t)
-not-lt-le (pos a) (negsuc b) t = refl
-not-lt-le (negsuc a) (pos b) t = never (sym t)
-not-lt-le (negsuc a) (negsuc b) t = le-leb a b (ltb-false b a t)
+none_left : (o : Option ℤ) → is_some o ≡ false → none ≡ o
+none_left none e = refl
+none_left (some x) e = never (sym e)
 
-module _ (lo hi : ℤ) (fl : mag lo < 2 ^ 31) (fh : mag hi < 2 ^ 31) where
-  test : lt_z (to_z w32 (of_z w32 hi)) (to_z w32 (of_z w32 lo)) ≡ lt_z hi lo
-  test = ap₂ lt_z (kept hi fh) (kept lo fl)
+pub left-range : (a b : ℤ) → is_some (least (range a b)) ≡ le_z a b
+unfolding least
+left-range a b = go (le_z a b)
+  where
+    go : (t : Bool) → is_some (cond t (some a) none) ≡ t
+    go true = refl
+    go false = refl
 
-  pub range_none : lt_z (to_z w32 (of_z w32 hi)) (to_z w32 (of_z w32 lo)) ≡ true → least (range lo hi) ≡ none
-  unfolding least
-  range_none t = rw (lt_not_le hi lo (sym test ∙ t))
+module _ (c : Conditions) (k : ℕ) where
+  abbrev lo : ℤ
+  lo = get_or c.lo k (pos 0)
 
-  pub range-some : (v : Variable) {u : ℕ} → is_number v ≡ true → lt_z (to_z w32 (of_z w32 hi)) (to_z w32 (of_z w32 lo)) ≡ false → u ≡ unsigned (to_z w32 (of_z w32 lo)) → least (range lo hi) ≡ some (value_of v u)
-  unfolding least value_of
-  range-some (Number a b) i t e = rw (not-lt-le hi lo (sym test ∙ t)) (ap {B = Option ℤ} some (sym (ap signed (e ∙ ap unsigned (kept lo fl)) ∙ kept lo fl)))
-  range-some (Listed size) i t e = never i
+  abbrev hi : ℤ
+  hi = get_or c.hi k (pos 0)
+
+  pub number_left : mag lo < 2 ^ 31 → mag hi < 2 ^ 31 → le_z (to_z w32 (of_z w32 lo)) (to_z w32 (of_z w32 hi)) ≡ is_some (least (range_in c k))
+  number_left f g = ap₂ le_z (kept lo f) (kept hi g) ∙ sym (left-range lo hi)
+
+  pub number_none : (v : Variable) {a b : ℤ} → v ≡ Number a b → {t : Bool} → t ≡ is_some (least (range_in c k)) → t ≡ false → value_in v None ≡ least (condition_of c k v)
+  unfolding value_in condition_of
+  number_none v e d t = none_left (least (range_in c k)) (sym d ∙ t) ∙ ap (λ (v : Variable). least (condition_of c k v)) (sym e)
+
+  pub number_some : (v : Variable) {a b : ℤ} → v ≡ Number a b → {t : Bool} → t ≡ is_some (least (range_in c k)) → t ≡ true → mag lo < 2 ^ 31 → (u : ℕ) → u ≡ of_z w32 (to_z w32 (of_z w32 lo))
+      → value_in v (Some u) ≡ least (condition_of c k v)
+  unfolding value_in value_of condition_of least
+  number_some v e d t f u i =
+      ap {B = Option ℤ} (λ (v : Variable). some (value_of v u)) e
+      ∙ ap {B = Option ℤ} some (ap (to_z w32) (i ∙ ap (of_z w32) (kept lo f)) ∙ kept lo f)
+      ∙ sym (rw (sym (left-range lo hi) ∙ sym d ∙ t) refl)
+      ∙ ap (λ (v : Variable). least (condition_of c k v)) (sym e)
+
+  pub mask_none : (size : ℕ) → get_or c.mask k 0 ≡ 0 → value_in (Listed size) None ≡ least (condition_of c k (Listed size))
+  unfolding value_in condition_of least
+  mask_none size e = sym (rw (eq-eqb (get_or c.mask k 0) 0 e) refl)
+
+  pub mask_some : (size : ℕ) → (get_or c.mask k 0 ≡ 0 → ⊥) → (u : ℕ) → Lowest 32 (get_or c.mask k 0) u → value_in (Listed size) (Some u) ≡ least (condition_of c k (Listed size))
+  unfolding value_in value_of condition_of least
+  mask_some size f u l = sym (rw (ne_eqb (get_or c.mask k 0) 0 f) (ap {B = Option ℤ} (λ (j : ℕ). some (pos j)) (sym l.is)))
+
+-- narrowed, it is what the conditions leave
+module _ (c : Conditions) (k : ℕ) (p : List ℕ) (skip : ℕ) (os : List ℕ) where
+  pub combined_range : (v : Variable) (lo hi : ℤ) → v ≡ Number lo hi → mag lo < 2 ^ 31 → mag hi < 2 ^ 31 → (a b : ℤ) → mag a < 2 ^ 31 → mag b < 2 ^ 31
+      → range a b ≡ narrowed_by (range_at p skip) os (range (to_z w32 (of_z w32 lo)) (to_z w32 (of_z w32 hi))) → k < length c.lo → k < length c.hi
+      → condition_of (record { lo = set c.lo k (to_z w32 (of_z w32 a)); hi = set c.hi k (to_z w32 (of_z w32 b)); mask = c.mask }) k v ≡ narrowed_by (condition_in p skip v) os (own v)
+  unfolding own condition_in condition_of
+  combined_range v lo hi e fl fh a b fa fb d jl jh =
+      ap (condition_of (record { lo = set c.lo k (to_z w32 (of_z w32 a)); hi = set c.hi k (to_z w32 (of_z w32 b)); mask = c.mask }) k) e
+      ∙ ap₂ range (get_or-set_same c.lo k (to_z w32 (of_z w32 a)) (pos 0) jl ∙ kept a fa) (get_or-set_same c.hi k (to_z w32 (of_z w32 b)) (pos 0) jh ∙ kept b fb)
+      ∙ d
+      ∙ ap (narrowed_by (range_at p skip) os) (ap₂ range (kept lo fl) (kept hi fh))
+      ∙ ap (λ (v : Variable). narrowed_by (condition_in p skip v) os (own v)) (sym e)
+
+  pub combined_mask : (size m : ℕ) → mask m ≡ narrowed_by (mask_at p skip) os (mask (ones size)) → k < length c.mask
+      → condition_of (record { lo = c.lo; hi = c.hi; mask = set c.mask k m }) k (Listed size) ≡ narrowed_by (condition_in p skip (Listed size)) os (own (Listed size))
+  unfolding own condition_in condition_of
+  combined_mask size m d j = ap mask (get_or-set_same c.mask k m 0 j) ∙ d
+
+-- ---- all of a node's
 
 -- what stands outside the four slots of node n stays
 pub record Outside (n : ℕ) (t₀ t : List ℕ) : Type 0 where
@@ -124,192 +164,121 @@ module _ (g : List Node) (qs : List Policy) (n : ℕ) where
   unfolding combined
   long_as = combined-length qs n 0 vs
 
-  pub least-none : {t₀ t : List ℕ} → Outside n t₀ t → (k : ℕ) → k < length vs → least (get_or cs k (mask 0)) ≡ none → LeastIn g n cs t₀ t false
-  least-none w k h e =
+  pub least_none : {t₀ t : List ℕ} → Outside n t₀ t → (k : ℕ) → k < length vs → least (get_or cs k (mask 0)) ≡ none → LeastIn g n cs t₀ t false
+  least_none w k h e =
       let q = each_none cs k (omega (arith, long_as)) e in
       record { found = sym (ap is_some q); values = λ y. never y; others = w.others; long = w.long }
 
-  pub least-all : {t₀ t : List ℕ} → Outside n t₀ t
+  pub least_all : {t₀ t : List ℕ} → Outside n t₀ t
       → ((k : ℕ) → k < length vs → least (get_or cs k (mask 0)) ≡ some (value_of (get_or vs k no_variable) (get_or t (4 * n + k) 0))) → LeastIn g n cs t₀ t true
-  least-all {t = t} w f =
+  least_all {t = t} w f =
       let q = each-some vs cs t (4 * n) long_as f in
       record { found = sym (ap is_some q); values = λ y. q; others = w.others; long = w.long }
 
--- ---- the loop over a node's variables
+-- what an accepted schema says of a variable's size
+size-sound : (vs : List Variable) (k : ℕ) → SoundVariables vs → k < length vs → size_of (get_or vs k no_variable) ≤ 32
+unfolding size_of
+size-sound [] k s h = absurd (omega arith)
+size-sound (Number lo hi ∷ vs) zero s h = omega arith
+size-sound (Listed size ∷ vs) zero s h = s.0.1
+size-sound (v ∷ vs) (suc k) s h = size-sound vs k s.1 (omega arith)
 
--- those before k have their least values; the record has a place for each of four
-pub record Finding (g : List Node) (qs : List Policy) (n k skip : ℕ) (lo hi : List ℤ) (ms t₀ t : List ℕ) : Type 0 where
-  pub upto : k ≤ length (node_at g n).variables
+span_most : (v : Variable) → span v ≤ 8
+unfolding span
+span_most (Number lo hi) = omega arith
+span_most (Listed size) = omega arith
+
+-- ---- the loop over a node's variables: those before k have their least values
+
+pub record Finding (g : List Node) (qs : List Policy) (n k skip : ℕ) (t₀ t : List ℕ) : Type 0 where
   pub place : skip ≡ offset_of (node_at g n) k
   pub small : skip ≤ 8 + 8 * k
   pub each : (i : ℕ) → i < k → least (get_or (combined g qs n) i (mask 0)) ≡ some (value_of (get_or (node_at g n).variables i no_variable) (get_or t (4 * n + i) 0))
   pub outside : Outside n t₀ t
-  pub lower : length lo ≡ 4
-  pub upper : length hi ≡ 4
-  pub masks : length ms ≡ 4
 
-pub finding-init : (g : List Node) (qs : List Policy) (n : ℕ) (t : List ℕ) {skip : ℕ} → AtMost 8 (rank_count (node_at g n)) skip
-    → Finding g qs n 0 skip (replicate 4 (pos 0)) (replicate 4 (pos 0)) (replicate 4 0) t t
-finding-init g qs n t m =
-    record {
-      upto = omega arith;
-      place = offset-first (node_at g n) m;
-      small = omega (arith, m.most);
-      each = λ i h. absurd (omega arith);
-      outside = outside-init n t;
-      lower = length-replicate {A = ℤ} 4 (pos 0);
-      upper = length-replicate {A = ℤ} 4 (pos 0);
-      masks = length-replicate {A = ℕ} 4 0;
-    }
-
-pub finding-exit : (g : List Node) (qs : List Policy) (n k skip : ℕ) (lo hi : List ℤ) (ms t₀ t : List ℕ) {v : ℕ} → Finding g qs n k skip lo hi ms t₀ t → AtMost 4 (length (node_at g n).variables) v → v ≤ k
-    → LeastIn g n (combined g qs n) t₀ t true
-finding-exit g qs n k skip lo hi ms t₀ t w m l = least-all g qs n w.outside (λ i h. w.each i (omega (arith, m.is)))
-
--- the slot of the variable whose turn it is
-pub finding-slot : (s table : List ℕ) (qs : List Policy) (n k skip : ℕ) (lo hi : List ℤ) (ms t₀ t : List ℕ) {v : ℕ} → Finding (schema_of s) qs n k skip lo hi ms t₀ t
-    → AtMost 4 (length (node_at (schema_of s) n).variables) v → k < v → NodeIn s table n → BitsRoom s t₀ → 4 * n + k < length t
-finding-slot s table qs n k skip lo hi ms t₀ t w m h y room = omega (arith, w.outside.long, m.most, room.long, y.below)
+pub finding_init : (g : List Node) (qs : List Policy) (n : ℕ) (t : List ℕ) {skip : ℕ} → AtMost 8 (rank_count (node_at g n)) skip → Finding g qs n 0 skip t t
+finding_init g qs n t m = record { place = offset-first (node_at g n) m; small = omega (arith, m.most); each = λ i h. absurd (omega arith); outside = outside-init n t }
 
 -- a node without variables has them all
-pub least-empty : (g : List Node) (qs : List Policy) (n : ℕ) (t : List ℕ) {v : ℕ} → AtMost 4 (length (node_at g n).variables) v → v ≡ 0 → LeastIn g n (combined g qs n) t t true
-least-empty g qs n t m e = least-all g qs n (outside-init n t) (λ i h. absurd (omega (arith, m.is)))
+pub least_empty : (g : List Node) (qs : List Policy) (n : ℕ) (t : List ℕ) {v : ℕ} → AtMost 4 (length (node_at g n).variables) v → v ≡ 0 → LeastIn g n (combined g qs n) t t true
+least_empty g qs n t m e = least_all g qs n (outside-init n t) (λ i h. absurd (omega (arith, m.is)))
 
--- ---- the variable whose turn it is
+module _ (x : Policies) (n k skip : ℕ) (t₀ t : List ℕ) (h : n < length (schema_of x.schema.bytes.now)) (w : Finding (schema_of x.schema.bytes.now) (noted (schema_of x.schema.bytes.now) x.bytes.now x.rows.now) n k skip t₀ t)
+    {c : ℕ} (m : AtMost 4 (length (node_at (schema_of x.schema.bytes.now) n).variables) c) where
+  abbrev g : List Node
+  g = schema_of x.schema.bytes.now
 
-pub turn_below : (g : List Node) (n k : ℕ) {v : ℕ} → AtMost 4 (length (node_at g n).variables) v → k < v → k < length (node_at g n).variables
-turn_below g n k m h = omega (arith, m.is)
+  abbrev p : List ℕ
+  p = x.bytes.now
 
--- what an accepted schema says of a variable
-sound-at : (vs : List Variable) (k : ℕ) → SoundVariables vs → k < length vs → SoundVariable (get_or vs k no_variable)
-sound-at [] k s h = absurd (omega arith)
-sound-at (v ∷ vs) zero s h = s.0
-sound-at (v ∷ vs) (suc k) s h = sound-at vs k s.1 (omega arith)
+  abbrev qs : List Policy
+  qs = noted g p x.rows.now
 
-module _ (s t : List ℕ) (n k : ℕ) {m : ℕ} {x : Variable} (h : NodeIn s t n) (b : Bytes s) (a : AtMost 4 (length (node_at (schema_of s) n).variables) m) (l : k < m)
-    (e : x ≡ get_or (node_at (schema_of s) n).variables k no_variable) where
-  sound : SoundVariable (get_or (node_at (schema_of s) n).variables k no_variable)
-  sound = sound-at (node_at (schema_of s) n).variables k ((here s t n h).one.sound b).variables (omega (arith, a.is))
+  pub finding_exit : c ≤ k → LeastIn g n (combined g qs n) t₀ t true
+  finding_exit l = least_all g qs n w.outside (λ i h. w.each i (omega (arith, m.is)))
 
-  -- a listed variable has at most 32 values
-  pub size_small : {size : ℕ} → x ≡ Listed size → size ≤ 32
-  size_small i = (subst SoundVariable (sym e ∙ i) sound).1
-
-module _ (s table p : List ℕ) (count : ℕ) (offsets : List ℕ) (n k skip : ℕ) (lo hi : List ℤ) (ms t₀ t : List ℕ) {v : ℕ}
-    (w : Finding (schema_of s) (rules_at (schema_of s) p n (take count offsets)) n k skip lo hi ms t₀ t)
-    (m : AtMost 4 (length (node_at (schema_of s) n).variables) v) (h : k < v) (y : NodeIn s table n) (room : BitsRoom s t₀) where
-  module _ {x : Variable} (f : RulesAt (schema_of s) p n count offsets) (e : x ≡ get_or (node_at (schema_of s) n).variables k no_variable) where
-    abbrev g : List Node
-    g = schema_of s
-
-    abbrev qs : List Policy
-    qs = rules_at g p n (take count offsets)
-
+  module _ (l : k < c) where
     below : k < length (node_at g n).variables
     below = omega (arith, m.is)
 
-    range-place : {a b : ℤ} → x ≡ Number a b → ConditionIn g n k skip true
-    range-place i = record { below = below; type = ap is_number (sym e ∙ i); place = w.place }
+    -- its slot
+    pub finding_slot : BitsRoom x.schema.bytes.now t₀ → 4 * n + k < length t
+    finding_slot room = omega (arith, w.outside.long, m.most, room.long, h)
 
-    mask-place : {size : ℕ} → x ≡ Listed size → ConditionIn g n k skip false
-    mask-place i = record { below = below; type = ap is_number (sym e ∙ i); place = w.place }
+    -- its condition ends inside a PN
+    pub finding_fits : (v : Variable) (d : ℕ) → d ≡ span v → Fits w64 (skip + d)
+    finding_fits v d e = record { fits = omega (arith, w.small, m.most, e, span_most v) }
 
-    pub range-bytes : {a b : ℤ} → x ≡ Number a b → BytesAt p count offsets (skip + 8)
-    range-bytes i = ranges-bytes g p n count offsets f k skip (range-place i)
+    -- what its values are, and where its conditions stand
+    module _ (v : Variable) (e : v ≡ variable_at g n k) where
+      pub size_small : size_of v ≤ 32
+      size_small = rw e (size-sound (node_at g n).variables k ((sound_of x.schema.bytes.now (let z = h in omega arith)).nodes n h).variables below)
 
-    pub mask-bytes : {size : ℕ} → x ≡ Listed size → BytesAt p count offsets (skip + 4)
-    mask-bytes i = masks-bytes g p n count offsets f k skip (mask-place i)
+      module _ (os : List ℕ) (i : os ≡ offsets_in x.rows.now n) (f : RulesAt g p n os) where
+        place : (t : Bool) → is_number v ≡ t → ConditionIn g n k skip t
+        place t q = record { below = below; type = ap is_number (sym e) ∙ q; place = w.place }
 
-    -- its condition
-    this : {y z : Condition} → y ≡ restrict_all qs n k z → z ≡ own x → get_or (combined g qs n) k (mask 0) ≡ y
-    unfolding combined
-    this d i =
-        combined-at qs n 0 k (node_at g n).variables (mask 0) below
-        ∙ ap (λ (j : ℕ). restrict_all qs n j (own (get_or (node_at g n).variables k no_variable))) (zero-add k)
-        ∙ ap (restrict_all qs n k) (sym (i ∙ ap own e))
-        ∙ sym d
+        pub condition_bytes : BytesAt p os (skip + span v)
+        unfolding span
+        condition_bytes = go v place
+          where
+            go : (v : Variable) → ((t : Bool) → is_number v ≡ t → ConditionIn g n k skip t) → BytesAt p os (skip + span v)
+            go (Number a b) c = ranges_bytes g p n os f k skip (c _ refl)
+            go (Listed size) c = masks_bytes g p n os f k skip (c _ refl)
 
-    -- its least value
-    turned : {d : ℕ} {ls us : List ℤ} {ns : List ℕ} (u : ℕ) → length ls ≡ 4 → length us ≡ 4 → length ns ≡ 4
-        → least (get_or (combined g qs n) k (mask 0)) ≡ some (value_of (get_or (node_at g n).variables k no_variable) u)
-        → span (get_or (node_at g n).variables k no_variable) ≡ d → d ≤ 8 → Finding g qs n (k + 1) (skip + d) ls us ns t₀ (set t (4 * n + k) u)
-    turned u a b c l z i =
-        let q = m.most in
-        record {
-          upto = omega (arith, below);
-          place = ap (λ (j : ℕ). skip + j) (sym z) ∙ offset-next (node_at g n) k w.place below;
-          small = omega (arith, w.small);
-          each = λ i j. one i j (dec_lt i k);
-          outside = outside_set n t₀ t w.outside (4 * n + k) u (omega arith) (omega arith);
-          lower = a;
-          upper = b;
-          masks = c;
-        }
-      where
-        one : (i : ℕ) → i < k + 1 → Dec (i < k) → least (get_or (combined g qs n) i (mask 0)) ≡ some (value_of (get_or (node_at g n).variables i no_variable) (get_or (set t (4 * n + k) u) (4 * n + i) 0))
-        one i j (yes x) =
-            w.each i x ∙ ap {B = Option ℤ} (λ (j : ℕ). some (value_of (get_or (node_at g n).variables i no_variable) j)) (sym (get_or-set_other t (4 * n + k) (4 * n + i) u 0 (λ y. omega arith)))
-        one i j (no x) =
-            let z : i ≡ k = omega arith in
-            rw z (l ∙ ap {B = Option ℤ} (λ (j : ℕ). some (value_of (get_or (node_at g n).variables k no_variable) j)) (sym (get_or-set_same t (4 * n + k) u 0 (finding-slot s table qs n k skip lo hi ms t₀ t w m h y room))))
+        this : get_or (combined g qs n) k (mask 0) ≡ narrowed_by (condition_in p skip v) os (own v)
+        unfolding combined condition_in
+        this =
+            ap (λ (cs : List Condition). get_or cs k (mask 0)) (sym (row_combined x n h os i f))
+            ∙ combined-at (rules_at g p n os) n 0 k (node_at g n).variables (mask 0) below
+            ∙ ap₂ (λ (j : ℕ) (u : Variable). restrict_all (rules_at g p n os) n j (own u)) (zero-add k) (sym e)
+            ∙ sym (go v place)
+          where
+            go : (v : Variable) → ((t : Bool) → is_number v ≡ t → ConditionIn g n k skip t) → narrowed_by (condition_in p skip v) os (own v) ≡ restrict_all (rules_at g p n os) n k (own v)
+            go (Number a b) c = ranges-left g p n os f k skip (c _ refl) (own (Number a b))
+            go (Listed size) c = masks-left g p n os f k skip (c _ refl) (own (Listed size))
 
-    -- a number
-    module _ {a b u z : ℤ} (i : x ≡ Number a b) (fa : mag a < 2 ^ 31) (fb : mag b < 2 ^ 31)
-        (d : range u z ≡ narrowed_by (range_at p skip) (take count offsets) (range (to_z w32 (of_z w32 a)) (to_z w32 (of_z w32 b)))) (fu : mag u < 2 ^ 31) (fz : mag z < 2 ^ 31) where
-      abbrev lower : ℤ
-      lower = get_or (set lo k (to_z w32 (of_z w32 u))) k (pos 0)
+        pub finding_none : {d : Condition} → d ≡ narrowed_by (condition_in p skip v) os (own v) → value_in v None ≡ least d → LeastIn g n (combined g qs n) t₀ t false
+        unfolding value_in
+        finding_none f q = least_none g qs n w.outside k below (ap least (this ∙ sym f) ∙ sym q)
 
-      abbrev upper : ℤ
-      upper = get_or (set hi k (to_z w32 (of_z w32 z))) k (pos 0)
-
-      lower-is : lower ≡ u
-      lower-is = get_or-set_same lo k (to_z w32 (of_z w32 u)) (pos 0) (let q = m.most in omega (arith, w.lower)) ∙ kept u fu
-
-      upper_is : upper ≡ z
-      upper_is = get_or-set_same hi k (to_z w32 (of_z w32 z)) (pos 0) (let q = m.most in omega (arith, w.upper)) ∙ kept z fz
-
-      fits-lower : mag lower < 2 ^ 31
-      fits-lower = rw lower-is fu
-
-      fits-upper : mag upper < 2 ^ 31
-      fits-upper = rw upper_is fz
-
-      range-here : get_or (combined g qs n) k (mask 0) ≡ range lower upper
-      unfolding own
-      range-here =
-          this (d ∙ ranges-left g p n count offsets f k skip (range-place i) (range (to_z w32 (of_z w32 a)) (to_z w32 (of_z w32 b)))) (ap₂ range (kept a fa) (kept b fb) ∙ sym (ap own i))
-          ∙ sym (ap₂ range lower-is upper_is)
-
-      pub finding-empty : lt_z (to_z w32 (of_z w32 upper)) (to_z w32 (of_z w32 lower)) ≡ true → LeastIn g n (combined g qs n) t₀ t false
-      finding-empty o = least-none g qs n w.outside k below (ap least range-here ∙ range_none lower upper fits-lower fits-upper o)
-
-      pub finding-range : {r : ℕ} → lt_z (to_z w32 (of_z w32 upper)) (to_z w32 (of_z w32 lower)) ≡ false → r ≡ unsigned (to_z w32 (of_z w32 lower))
-          → Finding g qs n (k + 1) (skip + 8) (set lo k (to_z w32 (of_z w32 u))) (set hi k (to_z w32 (of_z w32 z))) ms t₀ (set t (4 * n + k) r)
-      finding-range {r} o c =
-          turned r (length-set lo k (to_z w32 (of_z w32 u)) ∙ w.lower) (length-set hi k (to_z w32 (of_z w32 z)) ∙ w.upper) w.masks
-          (ap least range-here ∙ range-some lower upper fits-lower fits-upper (get_or (node_at g n).variables k no_variable) (ap is_number (sym e ∙ i)) o c)
-          (span-of-number (sym e ∙ i))
-          (omega arith)
-
-    -- a listed variable
-    module _ {size r : ℕ} (i : x ≡ Listed size) (d : mask r ≡ narrowed_by (mask_at p skip) (take count offsets) (mask (ones size))) where
-      abbrev left : ℕ
-      left = get_or (set ms k r) k 0
-
-      mask-here : get_or (combined g qs n) k (mask 0) ≡ mask left
-      unfolding own
-      mask-here =
-          this (d ∙ masks-left g p n count offsets f k skip (mask-place i) (mask (ones size))) (sym (ap own i))
-          ∙ sym (ap mask (get_or-set_same ms k r 0 (let q = m.most in omega (arith, w.masks))))
-
-      pub finding-no-bit : left ≡ 0 → LeastIn g n (combined g qs n) t₀ t false
-      unfolding least
-      finding-no-bit o = least-none g qs n w.outside k below (ap least mask-here ∙ rw (eq-eqb left 0 o) refl)
-
-      pub finding-mask : {q : ℕ} → (left ≡ 0 → ⊥) → Lowest 32 left q → Finding g qs n (k + 1) (skip + 4) lo hi (set ms k r) t₀ (set t (4 * n + k) q)
-      unfolding least value_of
-      finding-mask {q} o c =
-          turned q w.lower w.upper (length-set ms k r ∙ w.masks)
-          (ap least mask-here ∙ rw (ne_eqb left 0 o) (ap {B = Option ℤ} (λ (j : ℕ). some (pos j)) (sym c.is) ∙ ap {B = Option ℤ} (λ (y : Variable). some (value_of y q)) (sym (sym e ∙ i))))
-          (span-of-listed (sym e ∙ i))
-          (omega arith)
+        pub finding_some : BitsRoom x.schema.bytes.now t₀ → {b : Condition} → b ≡ narrowed_by (condition_in p skip v) os (own v) → (u d : ℕ) → value_in v (Some u) ≡ least b → d ≡ span v
+            → Finding g qs n (k + 1) (skip + d) t₀ (set t (4 * n + k) u)
+        unfolding value_in
+        finding_some room f u d q z =
+            let a = m.most in
+            record {
+              place = ap (λ (j : ℕ). skip + j) (z ∙ ap span e) ∙ offset-next (node_at g n) k w.place below;
+              small = omega (arith, w.small, z, span_most v);
+              each = λ i j. one i j (dec_lt i k);
+              outside = outside_set n t₀ t w.outside (4 * n + k) u (omega arith) (omega arith);
+            }
+          where
+            one : (i : ℕ) → i < k + 1 → Dec (i < k) → least (get_or (combined g qs n) i (mask 0)) ≡ some (value_of (get_or (node_at g n).variables i no_variable) (get_or (set t (4 * n + k) u) (4 * n + i) 0))
+            one i j (yes y) =
+                w.each i y ∙ ap {B = Option ℤ} (λ (j : ℕ). some (value_of (get_or (node_at g n).variables i no_variable) j)) (sym (get_or-set_other t (4 * n + k) (4 * n + i) u 0 (λ z. omega arith)))
+            one i j (no y) =
+                let s : i ≡ k = omega arith in
+                rw s
+                (ap least (this ∙ sym f) ∙ sym q
+                ∙ ap₂ {C = Option ℤ} (λ (v : Variable) (j : ℕ). some (value_of v j)) e (sym (get_or-set_same t (4 * n + k) u 0 (finding_slot room))))

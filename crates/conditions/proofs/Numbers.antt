@@ -1,14 +1,14 @@
 -- A node with four variables, all numbers: how that is told, and the loop over the offsets that narrows all four.
 -- Rests on the laws of one variable's turn, in Narrowing.
 use mathlib.Core.Path.{◌≡◌, refl, ap, sym, ◌∙◌}
-use mathlib.Core.Bool.{Bool, true, false, ◌&&◌}
+use mathlib.Core.Bool.{Bool, true, ◌&&◌}
 use mathlib.Core.List.{List, [], ◌∷◌}
-use Prim.Native.Nat.{ℕ, zero, suc, ◌+◌, ◌*◌, ◌≤◌, ◌<◌, ◌^◌}
+use Prim.Native.Nat.{ℕ, zero, suc, ◌+◌, ◌*◌, ◌^◌, ◌≤◌, ◌<◌}
 use native.Mathlib.Omega.{arith}
 use native.Mathlib.Nat.{zero-add}
 use borrow.Author.Tests.{eqb-true, eq-eqb, ne_eqb}
 use lib.Dec.{eqb}
-use lib.ListN.{length, get_or, take}
+use lib.ListN.{length, get_or, drop}
 use lib.Seq.{ext_get_or}
 use lib.Signed.{mag}
 use mir.Syntax.{w32, w64}
@@ -16,23 +16,26 @@ use mir.Val.{Fits, to_z, of_z}
 use Rattle.fields.specs.Reading.{be, signed}
 use Rattle.fields.proofs.Tests.{and_no, and-true, never}
 use Rattle.schema.specs.Schema.{Node, schema_of, node_at, no_variable, variable_at, is_number}
-use Rattle.schema.specs.Table.{NodeIn, AtMost}
+use Rattle.schema.specs.Table.{AtMost}
 use Rattle.schema.specs.declared.Variable.{Variable}
 use Rattle.schema.specs.declared.Variable.TheVariants.{Number, Listed}
 use Rattle.schema.specs.Layout.{rank_count, span, spans, offset_of, masks_of}
 use Rattle.schema.proofs.Access.{laid}
 use Rattle.nodes.specs.declared.Bounds.{Bounds}
-use Rattle.policies.specs.Policies.{Condition, range, mask, Policy}
-use Rattle.policies.specs.Rows.{rules_at, RulesAt, BytesAt}
-use Rattle.policies.proofs.Offsets.{stretch, stretch-inside, stretch-room}
+use Rattle.nodes.specs.declared.Schema.{Schema}
+use Rattle.policies.specs.Policies.{Condition, range, mask}
+use Rattle.policies.specs.Rows.{rules_at, noted, offsets_in, RulesAt, BytesAt}
+use Rattle.policies.specs.declared.Policies.{Policies}
+use Rattle.policies.proofs.Offsets.{stretch, stretch_inside, stretch_room}
 use Rattle.model.specs.Satisfaction.{every}
 use Rattle.model.specs.Reconciling.{own, both, restrict_all, combined}
 use Rattle.model.proofs.Values.{combined-at}
 use Rattle.conditions.specs.Least.{ranges_in}
 use Rattle.conditions.specs.Rules.{range_at, narrowed_by, four_numbers}
-use Rattle.conditions.proofs.Rules.{ConditionIn, ranges-bytes, ranges-left}
+use Rattle.conditions.proofs.Rules.{ConditionIn, ranges_bytes, ranges-left}
+use Rattle.conditions.proofs.Row.{row_combined}
 use Rattle.conditions.proofs.Least.{combined-length}
-use Rattle.conditions.proofs.Narrowing.{Narrowing, range-step, narrowing-exit, kept}
+use Rattle.conditions.proofs.Narrowing.{kept, range_step, narrowed_exit}
 
 -- ---- the test
 
@@ -42,25 +45,25 @@ masks-none [] = refl
 masks-none (Number lo hi ∷ vs) = masks-none vs
 masks-none (Listed size ∷ vs) = ne_eqb (masks_of vs + 1) 0 (λ e. omega arith)
 
-pub masks-room : (s t : List ℕ) (n : ℕ) → NodeIn s t n → 16 * n + 6 < length t
-masks-room s t n h = omega (arith, h.below, h.table.long)
+module _ (x : Schema) (n : ℕ) (h : n < length (schema_of x.bytes.now)) (v : ℕ) (m : AtMost 4 (length (node_at (schema_of x.bytes.now) n).variables) v) where
+  abbrev own_vs : List Variable
+  own_vs = (node_at (schema_of x.bytes.now) n).variables
 
-pub four-other : (vs : List Variable) {v : ℕ} → AtMost 4 (length vs) v → (v ≡ 4 → ⊥) → false ≡ four_numbers vs
-unfolding four_numbers
-four-other vs m h = sym (and_no (every is_number vs) (ne_eqb (length vs) 4 (λ e. h (m.is ∙ e))))
+  pub four_other : (v ≡ 4 → ⊥) → eqb v 4 ≡ four_numbers own_vs
+  unfolding four_numbers
+  four_other f = ne_eqb v 4 f ∙ sym (and_no (every is_number own_vs) (ne_eqb (length own_vs) 4 (λ e. f (m.is ∙ e))))
 
-pub four-masks : (s t : List ℕ) (n : ℕ) {v : ℕ} → NodeIn s t n → AtMost 4 (length (node_at (schema_of s) n).variables) v → v ≡ 4
-    → eqb (get_or t (16 * n + 6) 0) 0 ≡ four_numbers (node_at (schema_of s) n).variables
-unfolding four_numbers
-four-masks s t n h m e =
-    ap (λ (c : ℕ). eqb c 0) ((laid s t h.table).each n h.below).masks
-    ∙ masks-none (node_at (schema_of s) n).variables
-    ∙ ap (λ (b : Bool). b && every is_number (node_at (schema_of s) n).variables) (sym (eq-eqb (length (node_at (schema_of s) n).variables) 4 (sym m.is ∙ e)))
+  pub four_masks : v ≡ 4 → eqb (get_or x.table.now (16 * n + 6) 0) 0 ≡ four_numbers own_vs
+  unfolding four_numbers
+  four_masks e =
+      ap (λ (c : ℕ). eqb c 0) ((laid x.bytes.now x.table.now x.tabled).each n h).masks
+      ∙ masks-none own_vs
+      ∙ ap (λ (b : Bool). b && every is_number own_vs) (sym (eq-eqb (length own_vs) 4 (sym m.is ∙ e)))
 
 -- ---- what it tells
 
-pub four-told : (vs : List Variable) {x : Bool} → x ≡ four_numbers vs → x ≡ true → four_numbers vs ≡ true
-four-told vs e t = sym e ∙ t
+pub four_told : (vs : List Variable) {x : Bool} → x ≡ four_numbers vs → x ≡ true → four_numbers vs ≡ true
+four_told vs e t = sym e ∙ t
 
 pub four-length : (vs : List Variable) → four_numbers vs ≡ true → length vs ≡ 4
 unfolding four_numbers
@@ -91,14 +94,15 @@ spans-numbers (v ∷ vs) (suc k) e h =
 pub four_below : (vs : List Variable) (k : ℕ) → four_numbers vs ≡ true → k < 4 → k < length vs
 four_below vs k f h = omega (arith, four-length vs f)
 
-pub four-number : (vs : List Variable) (k : ℕ) → four_numbers vs ≡ true → k < 4 → is_number (get_or vs k no_variable) ≡ true
-four-number vs k f h = number_at vs k (every-number vs f) (four_below vs k f h)
+pub four_number : (vs : List Variable) (k : ℕ) → four_numbers vs ≡ true → k < 4 → is_number (get_or vs k no_variable) ≡ true
+four_number vs k f h = number_at vs k (every-number vs f) (four_below vs k f h)
 
 -- ---- the loop
 
 -- the offsets from row r on are left for variable k, which has its place in cs
-abbrev Left : List Node → List ℕ → ℕ → ℕ → List ℕ → ℕ → ℕ → List Condition → ℕ → Type 0
-Left g p n count offsets skip r cs k = Narrowing (range_at p (skip + 8 * k)) count offsets (own (variable_at g n k)) r (get_or cs k (mask 0))
+abbrev Left : List Node → List ℕ → ℕ → List ℕ → ℕ → ℕ → List Condition → ℕ → Type 0
+Left g p n offsets skip r cs k =
+    narrowed_by (range_at p (skip + 8 * k)) (drop r offsets) (get_or cs k (mask 0)) ≡ narrowed_by (range_at p (skip + 8 * k)) offsets (own (variable_at g n k))
 
 pub below-four : (P : ℕ → Type 0) → P 0 → P 1 → P 2 → P 3 → (k : ℕ) → k < 4 → P k
 below-four P a b c d zero h = a
@@ -107,39 +111,33 @@ below-four P a b c d (suc (suc zero)) h = c
 below-four P a b c d (suc (suc (suc zero))) h = d
 below-four P a b c d (suc (suc (suc (suc k)))) h = absurd (omega arith)
 
-pub record Four (g : List Node) (p : List ℕ) (n count : ℕ) (offsets : List ℕ) (skip r : ℕ) (w x y z : Condition) : Type 0 where
-  pub rules : RulesAt g p n count offsets
+pub record Four (g : List Node) (p : List ℕ) (n : ℕ) (offsets : List ℕ) (skip r : ℕ) (w x y z : Condition) : Type 0 where
+  pub rules : RulesAt g p n offsets
   pub numbers : four_numbers (node_at g n).variables ≡ true
   pub first : AtMost 8 (rank_count (node_at g n)) skip
-  pub each : (k : ℕ) → k < 4 → Left g p n count offsets skip r (w ∷ x ∷ y ∷ z ∷ []) k
+  pub each : (k : ℕ) → k < 4 → Left g p n offsets skip r (w ∷ x ∷ y ∷ z ∷ []) k
 
-pub four-init : (g : List Node) (p : List ℕ) (n count : ℕ) (offsets : List ℕ) {skip : ℕ} (w x y z : Bounds) → RulesAt g p n count offsets
+pub four_init : (g : List Node) (p : List ℕ) (n : ℕ) (offsets : List ℕ) {skip : ℕ} (w x y z : Bounds) → RulesAt g p n offsets
     → four_numbers (node_at g n).variables ≡ true → AtMost 8 (rank_count (node_at g n)) skip
     → Number w.lo w.hi ≡ variable_at g n 0 → Number x.lo x.hi ≡ variable_at g n 1 → Number y.lo y.hi ≡ variable_at g n 2 → Number z.lo z.hi ≡ variable_at g n 3
-    → Four g p n count offsets skip 0 (range w.lo w.hi) (range x.lo x.hi) (range y.lo y.hi) (range z.lo z.hi)
+    → Four g p n offsets skip 0 (range w.lo w.hi) (range x.lo x.hi) (range y.lo y.hi) (range z.lo z.hi)
 unfolding own
-four-init g p n count offsets {skip} w x y z f t m ew ex ey ez =
+four_init g p n offsets {skip} w x y z f t m ew ex ey ez =
     record {
       rules = f;
       numbers = t;
       first = m;
       each =
-          below-four (Left g p n count offsets skip 0 (range w.lo w.hi ∷ range x.lo x.hi ∷ range y.lo y.hi ∷ range z.lo z.hi ∷ []))
-          (start 0 (ap own ew))
-          (start 1 (ap own ex))
-          (start 2 (ap own ey))
-          (start 3 (ap own ez));
+          below-four (Left g p n offsets skip 0 (range w.lo w.hi ∷ range x.lo x.hi ∷ range y.lo y.hi ∷ range z.lo z.hi ∷ []))
+          (ap (narrowed_by (range_at p (skip + 8 * 0)) offsets) (ap own ew))
+          (ap (narrowed_by (range_at p (skip + 8 * 1)) offsets) (ap own ex))
+          (ap (narrowed_by (range_at p (skip + 8 * 2)) offsets) (ap own ey))
+          (ap (narrowed_by (range_at p (skip + 8 * 3)) offsets) (ap own ez));
     }
-  where
-    start : (k : ℕ) {c : Condition} → c ≡ own (variable_at g n k) → Narrowing (range_at p (skip + 8 * k)) count offsets (own (variable_at g n k)) 0 c
-    start k e = record { left = ap (narrowed_by (range_at p (skip + 8 * k)) (take count offsets)) e }
 
-module _ (g : List Node) (p : List ℕ) (n count : ℕ) (offsets : List ℕ) (skip r : ℕ) {w x y z : Condition} (u : Four g p n count offsets skip r w x y z) where
+module _ (g : List Node) (p : List ℕ) (n : ℕ) (offsets : List ℕ) (skip r : ℕ) (w x y z : Condition) (u : Four g p n offsets skip r w x y z) where
   abbrev vs : List Variable
   vs = (node_at g n).variables
-
-  abbrev qs : List Policy
-  qs = rules_at g p n (take count offsets)
 
   place : (k : ℕ) → k < 4 → ConditionIn g n k (skip + 8 * k) true
   unfolding offset_of
@@ -152,79 +150,81 @@ module _ (g : List Node) (p : List ℕ) (n count : ℕ) (offsets : List ℕ) (sk
         place = omega (arith, u.first.is, spans-numbers vs k e (omega arith));
       }
 
-  module _ (h : r < count) where
+  module _ (h : r < length offsets) (o : ℕ) (q : o ≡ get_or offsets r 0) where
     abbrev here_on : List ℕ
-    here_on = stretch p (get_or offsets r 0)
+    here_on = stretch p o
 
-    last : BytesAt p count offsets (skip + 24 + 8)
-    last = ranges-bytes g p n count offsets u.rules 3 (skip + 24) (place 3 (omega arith))
+    last : BytesAt p offsets (skip + 24 + 8)
+    last = ranges_bytes g p n offsets u.rules 3 (skip + 24) (place 3 (omega arith))
 
-    pub four-inside : get_or offsets r 0 ≤ length p
-    four-inside = stretch-inside p count offsets r (skip + 24 + 8) last h
+    pub four_inside : o ≤ length p
+    four_inside = omega (arith, q, stretch_inside p offsets r (skip + 24 + 8) last h)
 
     room : skip + 24 + 8 ≤ length here_on
-    room = stretch-room p count offsets r (skip + 24 + 8) last h
+    room = rw q (stretch_room p offsets r (skip + 24 + 8) last h)
 
-    pub first-room : skip + 8 ≤ length here_on
-    first-room = omega (arith, room)
+    pub first_room : skip + 8 ≤ length here_on
+    first_room = omega (arith, room)
 
-    pub next-room : (k : ℕ) → k ≤ 24 → skip + k + 8 ≤ length here_on
-    next-room k l = omega (arith, room)
+    pub next_room : (k : ℕ) → k ≤ 24 → skip + k + 8 ≤ length here_on
+    next_room k l = omega (arith, room)
 
     pub next_fits : (k : ℕ) → k ≤ 24 → Fits w64 (skip + k)
     next_fits k l = record { fits = omega (arith, u.first.most) }
 
-    turn : (k at : ℕ) → k < 4 → at ≡ skip + 8 * k → {c d : Condition} → Narrowing (range_at p (skip + 8 * k)) count offsets (own (variable_at g n k)) r c
-        → d ≡ both c (range (signed (be 4 here_on at)) (signed (be 4 here_on (at + 4)))) → Narrowing (range_at p (skip + 8 * k)) count offsets (own (variable_at g n k)) (r + 1) d
-    turn k at l i {c} s d =
-        range-step p (skip + 8 * k) count offsets (own (variable_at g n k)) r s (ranges-bytes g p n count offsets u.rules k (skip + 8 * k) (place k l)) h
-        (d ∙ ap (λ (j : ℕ). both c (range (signed (be 4 here_on j)) (signed (be 4 here_on (j + 4))))) i)
+    turn : (k at : ℕ) → at ≡ skip + 8 * k → (c d : Condition) → narrowed_by (range_at p (skip + 8 * k)) (drop r offsets) c ≡ narrowed_by (range_at p (skip + 8 * k)) offsets (own (variable_at g n k))
+        → d ≡ both c (range (signed (be 4 here_on at)) (signed (be 4 here_on (at + 4))))
+        → narrowed_by (range_at p (skip + 8 * k)) (drop (r + 1) offsets) d ≡ narrowed_by (range_at p (skip + 8 * k)) offsets (own (variable_at g n k))
+    turn k at i c d s e =
+        range_step p (skip + 8 * k) offsets r c s h o q
+        (e ∙ ap (λ (j : ℕ). both c (range (signed (be 4 here_on j)) (signed (be 4 here_on (j + 4))))) i)
 
-    pub four-step : {w' x' y' z' : Condition}
+    pub four_step : (w' x' y' z' : Condition)
         → w' ≡ both w (range (signed (be 4 here_on skip)) (signed (be 4 here_on (skip + 4))))
         → x' ≡ both x (range (signed (be 4 here_on (skip + 8))) (signed (be 4 here_on (skip + 8 + 4))))
         → y' ≡ both y (range (signed (be 4 here_on (skip + 16))) (signed (be 4 here_on (skip + 16 + 4))))
         → z' ≡ both z (range (signed (be 4 here_on (skip + 24))) (signed (be 4 here_on (skip + 24 + 4))))
-        → Four g p n count offsets skip (r + 1) w' x' y' z'
-    four-step {w'} {x'} {y'} {z'} ew ex ey ez =
+        → Four g p n offsets skip (r + 1) w' x' y' z'
+    four_step w' x' y' z' ew ex ey ez =
         record {
           rules = u.rules;
           numbers = u.numbers;
           first = u.first;
           each =
-              below-four (Left g p n count offsets skip (r + 1) (w' ∷ x' ∷ y' ∷ z' ∷ []))
-              (turn 0 skip (omega arith) (omega arith) (u.each 0 (omega arith)) ew)
-              (turn 1 (skip + 8) (omega arith) (omega arith) (u.each 1 (omega arith)) ex)
-              (turn 2 (skip + 16) (omega arith) (omega arith) (u.each 2 (omega arith)) ey)
-              (turn 3 (skip + 24) (omega arith) (omega arith) (u.each 3 (omega arith)) ez);
+              below-four (Left g p n offsets skip (r + 1) (w' ∷ x' ∷ y' ∷ z' ∷ []))
+              (turn 0 skip (omega arith) w w' (u.each 0 (omega arith)) ew)
+              (turn 1 (skip + 8) (omega arith) x x' (u.each 1 (omega arith)) ex)
+              (turn 2 (skip + 16) (omega arith) y y' (u.each 2 (omega arith)) ey)
+              (turn 3 (skip + 24) (omega arith) z z' (u.each 3 (omega arith)) ez);
         }
 
   -- all rows are behind
-  done_at : count ≤ r → (k : ℕ) → k < 4 → get_or (combined g qs n) k (mask 0) ≡ get_or (w ∷ x ∷ y ∷ z ∷ []) k (mask 0)
+  done_at : length offsets ≤ r → (k : ℕ) → k < 4 → get_or (combined g (rules_at g p n offsets) n) k (mask 0) ≡ get_or (w ∷ x ∷ y ∷ z ∷ []) k (mask 0)
   unfolding combined
   done_at h k l =
-      combined-at qs n 0 k vs (mask 0) (four_below vs k u.numbers l)
-      ∙ ap (λ (j : ℕ). restrict_all qs n j (own (variable_at g n k))) (zero-add k)
-      ∙ sym (narrowing-exit (range_at p (skip + 8 * k)) count offsets (own (variable_at g n k)) r (u.each k l) u.rules.long h
-      ∙ ranges-left g p n count offsets u.rules k (skip + 8 * k) (place k l) (own (variable_at g n k)))
+      combined-at (rules_at g p n offsets) n 0 k vs (mask 0) (four_below vs k u.numbers l)
+      ∙ ap (λ (j : ℕ). restrict_all (rules_at g p n offsets) n j (own (variable_at g n k))) (zero-add k)
+      ∙ sym (narrowed_exit (range_at p (skip + 8 * k)) offsets r (get_or (w ∷ x ∷ y ∷ z ∷ []) k (mask 0)) (u.each k l) h
+      ∙ ranges-left g p n offsets u.rules k (skip + 8 * k) (place k l) (own (variable_at g n k)))
 
-  pub four_is : count ≤ r → w ∷ x ∷ y ∷ z ∷ [] ≡ combined g qs n
+  four_is : length offsets ≤ r → w ∷ x ∷ y ∷ z ∷ [] ≡ combined g (rules_at g p n offsets) n
   unfolding combined
   four_is h =
-      ext_get_or (mask 0) (w ∷ x ∷ y ∷ z ∷ []) (combined g qs n) (sym (combined-length qs n 0 vs ∙ four-length vs u.numbers)) λ k l.
+      ext_get_or (mask 0) (w ∷ x ∷ y ∷ z ∷ []) (combined g (rules_at g p n offsets) n) (sym (combined-length (rules_at g p n offsets) n 0 vs ∙ four-length vs u.numbers)) λ k l.
       sym (done_at h k l)
 
--- the record, as the code makes it of the bounds
-pub four-exit : (g : List Node) (p : List ℕ) (n count : ℕ) (offsets : List ℕ) (skip r : ℕ) (w x y z : Bounds)
-    → Four g p n count offsets skip r (range w.lo w.hi) (range x.lo x.hi) (range y.lo y.hi) (range z.lo z.hi) → count ≤ r
-    → mag w.lo < 2 ^ 31 → mag x.lo < 2 ^ 31 → mag y.lo < 2 ^ 31 → mag z.lo < 2 ^ 31
-    → mag w.hi < 2 ^ 31 → mag x.hi < 2 ^ 31 → mag y.hi < 2 ^ 31 → mag z.hi < 2 ^ 31
+-- the record, as the code makes it of the bounds, has what the noted policies leave
+pub four_exit : (x : Policies) (n : ℕ) (h : n < length (schema_of x.schema.bytes.now)) (os : List ℕ) → os ≡ offsets_in x.rows.now n → (skip r : ℕ) (a b c d : Bounds)
+    → Four (schema_of x.schema.bytes.now) x.bytes.now n os skip r (range a.lo a.hi) (range b.lo b.hi) (range c.lo c.hi) (range d.lo d.hi) → length os ≤ r
+    → mag a.lo < 2 ^ 31 → mag b.lo < 2 ^ 31 → mag c.lo < 2 ^ 31 → mag d.lo < 2 ^ 31
+    → mag a.hi < 2 ^ 31 → mag b.hi < 2 ^ 31 → mag c.hi < 2 ^ 31 → mag d.hi < 2 ^ 31
     → ranges_in (record {
-      lo = to_z w32 (of_z w32 w.lo) ∷ to_z w32 (of_z w32 x.lo) ∷ to_z w32 (of_z w32 y.lo) ∷ to_z w32 (of_z w32 z.lo) ∷ [];
-      hi = to_z w32 (of_z w32 w.hi) ∷ to_z w32 (of_z w32 x.hi) ∷ to_z w32 (of_z w32 y.hi) ∷ to_z w32 (of_z w32 z.hi) ∷ [];
+      lo = to_z w32 (of_z w32 a.lo) ∷ to_z w32 (of_z w32 b.lo) ∷ to_z w32 (of_z w32 c.lo) ∷ to_z w32 (of_z w32 d.lo) ∷ [];
+      hi = to_z w32 (of_z w32 a.hi) ∷ to_z w32 (of_z w32 b.hi) ∷ to_z w32 (of_z w32 c.hi) ∷ to_z w32 (of_z w32 d.hi) ∷ [];
       mask = 0 ∷ 0 ∷ 0 ∷ 0 ∷ [];
-    }) ≡ combined g (rules_at g p n (take count offsets)) n
+    }) ≡ combined (schema_of x.schema.bytes.now) (noted (schema_of x.schema.bytes.now) x.bytes.now x.rows.now) n
 unfolding ranges_in
-four-exit g p n count offsets skip r w x y z u h wl xl yl zl wh xh yh zh =
-    rw (kept w.lo wl, kept x.lo xl, kept y.lo yl, kept z.lo zl, kept w.hi wh, kept x.hi xh, kept y.hi yh, kept z.hi zh)
-    (four_is g p n count offsets skip r u h)
+four_exit x n h os e skip r a b c d u l al bl cl dl ah bh ch dh =
+    rw (kept a.lo al, kept b.lo bl, kept c.lo cl, kept d.lo dl, kept a.hi ah, kept b.hi bh, kept c.hi ch, kept d.hi dh)
+    (four_is (schema_of x.schema.bytes.now) x.bytes.now n os skip r (range a.lo a.hi) (range b.lo b.hi) (range c.lo c.hi) (range d.lo d.hi) u l
+    ∙ row_combined x n h os e u.rules)

@@ -7,8 +7,8 @@ use mathlib.Core.Option.{Option, some}
 use Prim.Native.Nat.{ℕ, zero, suc, ◌+◌, ◌≤◌, ◌<◌}
 use native.Mathlib.Omega.{arith}
 use native.Mathlib.Nat.{add-zero}
-use lib.ListN.{length, get_or, get_elem?, take, drop}
-use lib.Seq.{get_or-take, length-take-le}
+use lib.ListN.{length, get_or, get_elem?, drop}
+use Rattle.std.specs.List.{list_all}
 use lib.IntN.{ℤ, pos}
 use Rattle.fields.specs.Reading.{be, signed}
 use Rattle.fields.proofs.Tests.{never}
@@ -20,8 +20,8 @@ use Rattle.policies.specs.Policies.{Condition, range, mask, Rule, conditions_of,
 use Rattle.policies.specs.Widths.{condition_width}
 use Rattle.policies.specs.Rows.{rule_at, rules_at, RuleAt, RulesAt, BytesAt}
 use Rattle.policies.proofs.Stands.{ConditionAt, width-span, ConditionsAt, none, more}
-use Rattle.policies.proofs.Rules.{rule-read, rule-room, own-rule, rules-bytes}
-use Rattle.model.specs.Satisfaction.{condition_at, admits, meets, every, admitted}
+use Rattle.policies.proofs.Rules.{rule-read, rule-room, own-rule, rules_bytes}
+use Rattle.model.specs.Satisfaction.{condition_at, admits, meets, admitted}
 use Rattle.model.specs.Reconciling.{both, restrict, restrict_all}
 use Rattle.conditions.specs.Rules.{range_at, mask_at, narrowed_by, in_range, in_mask, in_ranges, in_masks}
 
@@ -95,47 +95,32 @@ rules-narrow g p n k f (o ∷ os) e c =
 
 rules-admit : (g : List Node) (p : List ℕ) (n k : ℕ) (v : Variable) (x : ℤ) (f : ℕ → Condition) (os : List ℕ)
     → ((r : ℕ) → r < length os → condition_at (of_rules (rule_at g p n (get_or os r 0) ∷ [])) n k ≡ some (f (get_or os r 0)))
-    → every (λ (o : ℕ). admits v (f o) x) os ≡ admitted (rules_at g p n os) n k v x
+    → list_all (λ (o : ℕ). admits v (f o) x) os ≡ admitted (rules_at g p n os) n k v x
 unfolding admitted meets rules_at
 rules-admit g p n k v x f [] e = refl
 rules-admit g p n k v x f (o ∷ os) e =
     ap₂ (λ (a b : Bool). a && b) (ap (λ (d : Option Condition). meets v d x) (sym (e 0 (omega arith)))) (rules-admit g p n k v x f os (λ r h. e (suc r) (omega arith)))
 
-module _ (g : List Node) (p : List ℕ) (n count : ℕ) (offsets : List ℕ) (w : RulesAt g p n count offsets) where
-  module _ (k skip : ℕ) where
-    left : (f : ℕ → Condition) → ((r : ℕ) → r < count → condition_at (of_rules (rule_at g p n (get_or offsets r 0) ∷ [])) n k ≡ some (f (get_or offsets r 0)))
-        → (c : Condition) → narrowed_by f (take count offsets) c ≡ restrict_all (rules_at g p n (take count offsets)) n k c
-    left f e =
-        rules-narrow g p n k f (take count offsets) (λ r h.
-        let l : r < count = omega (arith, length-take-le count offsets w.long) in
-        rw (get_or-take count offsets r 0 l) (e r l))
+module _ (g : List Node) (p : List ℕ) (n : ℕ) (offsets : List ℕ) (w : RulesAt g p n offsets) (k skip : ℕ) where
+  -- the condition of a number
+  pub ranges_bytes : ConditionIn g n k skip true → BytesAt p offsets (skip + 8)
+  ranges_bytes c = rules_bytes g p n offsets w (skip + 8) (λ r h. (range-read g p n (get_or offsets r 0) k skip (w.each r h) c).1)
 
-    admit : (v : Variable) (x : ℤ) (f : ℕ → Condition) → ((r : ℕ) → r < count → condition_at (of_rules (rule_at g p n (get_or offsets r 0) ∷ [])) n k ≡ some (f (get_or offsets r 0)))
-        → every (λ (o : ℕ). admits v (f o) x) (take count offsets) ≡ admitted (rules_at g p n (take count offsets)) n k v x
-    admit v x f e =
-        rules-admit g p n k v x f (take count offsets) (λ r h.
-        let l : r < count = omega (arith, length-take-le count offsets w.long) in
-        rw (get_or-take count offsets r 0 l) (e r l))
+  pub ranges-left : ConditionIn g n k skip true → (c : Condition) → narrowed_by (range_at p skip) offsets c ≡ restrict_all (rules_at g p n offsets) n k c
+  ranges-left i = rules-narrow g p n k (range_at p skip) offsets (λ r h. (range-read g p n (get_or offsets r 0) k skip (w.each r h) i).0)
 
-    -- the conditions of a number
-    pub ranges-bytes : ConditionIn g n k skip true → BytesAt p count offsets (skip + 8)
-    ranges-bytes c = rules-bytes g p n count offsets w (skip + 8) (λ r h. (range-read g p n (get_or offsets r 0) k skip (w.each r h) c).1)
+  -- that of a listed variable
+  pub masks_bytes : ConditionIn g n k skip false → BytesAt p offsets (skip + 4)
+  masks_bytes c = rules_bytes g p n offsets w (skip + 4) (λ r h. (mask-read g p n (get_or offsets r 0) k skip (w.each r h) c).1)
 
-    pub ranges-left : ConditionIn g n k skip true → (c : Condition) → narrowed_by (range_at p skip) (take count offsets) c ≡ restrict_all (rules_at g p n (take count offsets)) n k c
-    ranges-left i = left (range_at p skip) (λ r h. (range-read g p n (get_or offsets r 0) k skip (w.each r h) i).0)
+  pub masks-left : ConditionIn g n k skip false → (c : Condition) → narrowed_by (mask_at p skip) offsets c ≡ restrict_all (rules_at g p n offsets) n k c
+  masks-left i = rules-narrow g p n k (mask_at p skip) offsets (λ r h. (mask-read g p n (get_or offsets r 0) k skip (w.each r h) i).0)
 
-    -- those of a listed variable
-    pub masks-bytes : ConditionIn g n k skip false → BytesAt p count offsets (skip + 4)
-    masks-bytes c = rules-bytes g p n count offsets w (skip + 4) (λ r h. (mask-read g p n (get_or offsets r 0) k skip (w.each r h) c).1)
+  -- which values they admit
+  pub ranges-admitted : ConditionIn g n k skip true → (lo hi x : ℤ) → in_ranges p skip offsets x ≡ admitted (rules_at g p n offsets) n k (Number lo hi) x
+  unfolding in_ranges in_range admits range_at
+  ranges-admitted i lo hi x = rules-admit g p n k (Number lo hi) x (range_at p skip) offsets (λ r h. (range-read g p n (get_or offsets r 0) k skip (w.each r h) i).0)
 
-    pub masks-left : ConditionIn g n k skip false → (c : Condition) → narrowed_by (mask_at p skip) (take count offsets) c ≡ restrict_all (rules_at g p n (take count offsets)) n k c
-    masks-left i = left (mask_at p skip) (λ r h. (mask-read g p n (get_or offsets r 0) k skip (w.each r h) i).0)
-
-    -- which values they admit
-    pub ranges-admitted : ConditionIn g n k skip true → (lo hi x : ℤ) → in_ranges p skip (take count offsets) x ≡ admitted (rules_at g p n (take count offsets)) n k (Number lo hi) x
-    unfolding in_ranges in_range admits range_at
-    ranges-admitted i lo hi x = admit (Number lo hi) x (range_at p skip) (λ r h. (range-read g p n (get_or offsets r 0) k skip (w.each r h) i).0)
-
-    pub masks-admitted : ConditionIn g n k skip false → (size x : ℕ) → in_masks p skip (take count offsets) x ≡ admitted (rules_at g p n (take count offsets)) n k (Listed size) (pos x)
-    unfolding in_masks in_mask admits mask_at
-    masks-admitted i size x = admit (Listed size) (pos x) (mask_at p skip) (λ r h. (mask-read g p n (get_or offsets r 0) k skip (w.each r h) i).0)
+  pub masks-admitted : ConditionIn g n k skip false → (size x : ℕ) → in_masks p skip offsets x ≡ admitted (rules_at g p n offsets) n k (Listed size) (pos x)
+  unfolding in_masks in_mask admits mask_at
+  masks-admitted i size x = rules-admit g p n k (Listed size) (pos x) (mask_at p skip) offsets (λ r h. (mask-read g p n (get_or offsets r 0) k skip (w.each r h) i).0)

@@ -2,7 +2,9 @@
 use Rattle.std.specs.Prelude.{ℕ, ◌≤◌, ◌<◌, ◌≡◌, ◌⊎◌, Bool, true, List, [], ◌∷◌, length, get_or, pos}
 use Rattle.std.proofs.Math.Option.{some}
 use Rattle.schema.specs.Schema.{Node, node_at}
-use Rattle.policies.specs.Policies.{Condition, range}
+use Rattle.schema.specs.declared.Variable.{Variable}
+use Rattle.schema.specs.declared.Variable.TheVariants.{Number, Listed}
+use Rattle.policies.specs.Policies.{Condition, range, mask}
 use Rattle.instances.specs.Plan.{values_from, values_slot, value_slot}
 use Rattle.model.specs.Reconciling.{is_some, least_each}
 use Rattle.conditions.specs.declared.Conditions.{Conditions}
@@ -16,9 +18,13 @@ pub record LeastIn (g : List Node) (n : ℕ) (cs : List Condition) (t₀ t : Lis
 
 -- ---- for the contracts of functions that no other crate calls
 
--- what the record holds of variable k, a number
+-- what the record holds of variable k, a number, and of one by its type
 abbrev pub range_in : Conditions → ℕ → Condition
 range_in c k = range (get_or c.lo k (pos 0)) (get_or c.hi k (pos 0))
+
+unfoldable pub condition_of : Conditions → ℕ → Variable → Condition
+condition_of c k (Number lo hi) = range_in c k
+condition_of c k (Listed size) = mask (get_or c.mask k 0)
 
 -- of four numbers
 unfoldable pub ranges_in : Conditions → List Condition

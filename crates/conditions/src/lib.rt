@@ -2,23 +2,24 @@
 // PN leave, and which values these PN admit.
 #![tactic(auto)]
 
-ghost use Rattle.std.specs.Prelude.{◌≡◌, true, ◌+◌, ◌<◌, ◌≤◌, length, take};
+ghost use Rattle.std.specs.Prelude.{◌≡◌, true, ◌+◌, ◌<◌, ◌≤◌, length, drop};
+ghost use Rattle.std.specs.List.{All};
 ghost use Rattle.fields.specs.Reading.{be, signed};
 ghost use Rattle.numbers.specs.Bits.{ones};
 ghost use Rattle.schema.specs.Schema.{schema_of, node_at, variable_at};
-ghost use Rattle.schema.specs.Table.{NodeIn};
-ghost use Rattle.schema.specs.Layout.{range_width, mask_width, offset_of};
+ghost use Rattle.schema.specs.Layout.{range_width, mask_width, span, offset_of};
 ghost use Rattle.policies.specs.Policies.{range, mask};
-ghost use Rattle.policies.specs.Rows.{rules_at, RulesAt, noted, Noted, BytesAt};
+ghost use Rattle.policies.specs.Rows.{noted, BytesAt};
 ghost use Rattle.instances.specs.File.{value_of};
 ghost use Rattle.instances.specs.Plan.{BitsRoom};
 ghost use Rattle.model.specs.Satisfaction.{admitted};
-ghost use Rattle.model.specs.Reconciling.{both, combined};
-ghost use Rattle.conditions.specs.Least.{LeastIn, ranges_in};
-ghost use Rattle.conditions.specs.Rules.{range_at, mask_at, narrowed_by, in_range, in_ranges, in_mask, in_masks, four_numbers};
+ghost use Rattle.model.specs.Reconciling.{own, both, combined, least, is_some, least_each};
+ghost use Rattle.conditions.specs.Least.{LeastIn, range_in, ranges_in, condition_of};
+ghost use Rattle.conditions.specs.Rules.{range_at, mask_at, condition_in, value_in, narrowed_by, size_of, in_range, in_ranges, in_mask, in_masks, four_numbers};
 
-use nodes::Bounds;
-use policies::{MASK_WIDTH, RANGE_WIDTH, ROW_SLOTS};
+use fields::BigEndian;
+use nodes::{Bounds, Schema};
+use policies::{Policies, RANGE_WIDTH};
 use schema::{MOST_VARIABLES, NODE_SLOTS, Variable};
 
 // How far the second, third and fourth of a node's ranges stand from the first.
@@ -30,10 +31,10 @@ const FOURTH: usize = 3 * RANGE_WIDTH;
 
 // The combined conditions of one node: a range for a number, a mask for a listed variable, a place for each of four.
 #[derive(Clone, Copy)]
-pub struct Conditions {
-    pub lo: [i32; MOST_VARIABLES],
-    pub hi: [i32; MOST_VARIABLES],
-    pub mask: [u32; MOST_VARIABLES],
+struct Conditions {
+    lo: [i32; MOST_VARIABLES],
+    hi: [i32; MOST_VARIABLES],
+    mask: [u32; MOST_VARIABLES],
 }
 
 // The range x, narrowed by the condition that stands so far from the first rank of a PN, with which the slice begins.
@@ -42,297 +43,259 @@ fn narrow_at(ranks: &[u8], skip: usize, x: Bounds) -> Bounds
     ensures { range result.lo result.hi ≡ both (range x.lo x.hi) (range (signed (be 4 ranks.now skip)) (signed (be 4 ranks.now (skip + 4)))) }
 {
     Bounds {
-        lo: numbers::greater(x.lo, fields::i32_at(ranks, skip)),
-        hi: numbers::lesser(x.hi, fields::i32_at(ranks, skip + 4)),
+        lo: x.lo.max(i32::get(ranks, skip)),
+        hi: x.hi.min(i32::get(ranks, skip + 4)),
     }
 }
 
 // The range that is left of a number's, narrowed by those that stand so far from the offsets.
-fn narrow_range(
-    p: &[u8],
-    offsets: &[u16],
-    count: usize,
-    skip: usize,
-    least: i32,
-    most: i32,
-) -> Bounds
-    requires { BytesAt p.now count offsets.now (skip + range_width) }
-    ensures { range result.lo result.hi ≡ narrowed_by (range_at p.now skip) (take count offsets.now) (range least most) }
+#[tactic(auto, using(crate::proofs::Narrowing::range_exit, policies::proofs::Offsets::stretch_inside, policies::proofs::Offsets::stretch_room))]
+fn narrow_range(p: &[u8], offsets: &[u16], skip: usize, start: Bounds) -> Bounds
+    requires { BytesAt p.now offsets.now (skip + range_width) }
+    ensures { range result.lo result.hi ≡ narrowed_by (range_at p.now skip) offsets.now (range start.lo start.hi) }
 {
-    let mut x = Bounds {
-        lo: least,
-        hi: most,
-    };
-    let mut r: usize = 0;
-    while r < count {
-        let offset = offsets[r] as usize;
-        x = narrow_at(&p[offset..], skip, x);
-        r += 1;
+    let mut x = start;
+    for at in offsets {
+        x = narrow_at(&p[usize::from(*at)..], skip, x);
     }
     x
 }
 
 // The mask that is left of a listed variable's so many values, narrowed by those that stand so far from the offsets.
-fn narrow_mask(p: &[u8], offsets: &[u16], count: usize, skip: usize, size: u8) -> u32
-    requires bytes_at { BytesAt p.now count offsets.now (skip + mask_width) }
+#[tactic(auto, using(crate::proofs::Narrowing::mask_exit, policies::proofs::Offsets::stretch_inside, policies::proofs::Offsets::stretch_room))]
+fn narrow_mask(p: &[u8], offsets: &[u16], skip: usize, size: u8) -> u32
+    requires bytes_at { BytesAt p.now offsets.now (skip + mask_width) }
     requires size_bound { size ≤ 32 }
-    ensures { mask result ≡ narrowed_by (mask_at p.now skip) (take count offsets.now) (mask (ones size)) }
+    ensures { mask result ≡ narrowed_by (mask_at p.now skip) offsets.now (mask (ones size)) }
 {
-    let mut m = numbers::all_values(size);
-    let mut r: usize = 0;
-    while r < count {
-        let offset = offsets[r] as usize;
-        m = m & fields::u32_at(&p[offset..], skip);
-        r += 1;
+    let mut mask = numbers::all_values(size);
+    for at in offsets {
+        mask = mask & u32::get(&p[usize::from(*at)..], skip);
     }
-    m
+    mask
 }
 
 // Whether node n has four variables, all numbers: the table has how many are listed.
-fn has_four_numbers(schema: &[u8], table: &[u16], n: usize) -> bool
-    requires { NodeIn schema.now table.now n }
-    ensures { result ≡ four_numbers (node_at (schema_of schema.now) n).variables }
+#[tactic(auto, using(schema::proofs::Access::node_small, crate::proofs::Numbers::four_other, crate::proofs::Numbers::four_masks))]
+fn has_four_numbers(schema: &Schema, n: usize) -> bool
+    requires { n < length (schema_of schema.now.bytes.now) }
+    ensures { result ≡ four_numbers (node_at (schema_of schema.now.bytes.now) n).variables }
 {
-    if nodes::variable_count(schema, table, n) != MOST_VARIABLES {
-        return false;
+    schema.variable_count(n) == MOST_VARIABLES && schema.table[NODE_SLOTS * n + 6] == 0
+}
+
+impl Conditions {
+    // None of any variable.
+    fn new() -> Conditions {
+        Conditions {
+            lo: [0; MOST_VARIABLES],
+            hi: [0; MOST_VARIABLES],
+            mask: [0; MOST_VARIABLES],
+        }
     }
-    table[NODE_SLOTS * n + 6] == 0
+
+    // Those of variable k: its own, narrowed by what stands so far from the offsets.
+    #[tactic(auto, using(crate::proofs::Least::combined_mask), unfolding(schema::specs::Layout::span, crate::specs::Rules::size_of))]
+    fn combine(&mut self, k: usize, v: Variable, p: &[u8], offsets: &[u16], skip: usize)
+        requires k_bound { k < 4 }
+        requires bytes_at { BytesAt p.now offsets.now (skip + span v) }
+        requires size_bound { size_of v ≤ 32 }
+        ensures { condition_of self.new k v ≡ narrowed_by (condition_in p.now skip v) offsets.now (own v) }
+    {
+        match v {
+            Variable::Number { lo, hi } => {
+                let x = narrow_range(p, offsets, skip, Bounds { lo, hi });
+                self.lo[k] = x.lo;
+                self.hi[k] = x.hi;
+            }
+            Variable::Listed { size } => {
+                self.mask[k] = narrow_mask(p, offsets, skip, size);
+            }
+        }
+    }
+
+    // Whether variable k, a number, has a value left.
+    #[tactic(auto, using(crate::proofs::Least::number_left))]
+    fn has_number(&self, k: usize) -> bool
+        requires { k < 4 }
+        ensures { result ≡ is_some (least (range_in self.now k)) }
+    {
+        self.lo[k] <= self.hi[k]
+    }
+
+    // The bits of the least value that they leave of variable k.
+    #[tactic(auto, using(crate::proofs::Least::mask_none, crate::proofs::Least::mask_some))]
+    fn least(&self, k: usize, v: Variable) -> Option<u32>
+        requires { k < 4 }
+        ensures { value_in v result ≡ least (condition_of self.now k v) }
+    {
+        match v {
+            Variable::Number { .. } => {
+                if !self.has_number(k) {
+                    return None;
+                }
+                Some(self.lo[k].cast_unsigned())
+            }
+            Variable::Listed { .. } => {
+                if self.mask[k] == 0 {
+                    return None;
+                }
+                Some(numbers::least_value(self.mask[k]))
+            }
+        }
+    }
+
+    // Whether each of four numbers has a value left.
+    #[tactic(auto, using(crate::proofs::FourLeast::numbers_left))]
+    fn have_numbers(&self) -> bool
+        ensures { result ≡ is_some (least_each (ranges_in self.now)) }
+    {
+        self.has_number(0) & self.has_number(1) & self.has_number(2) & self.has_number(3)
+    }
 }
 
 // The combined conditions of node n, which has four numbers: each PN narrows all four in turn.
-fn combine_numbers(
-    schema: &[u8],
-    table: &[u16],
-    p: &[u8],
-    offsets: &[u16],
-    count: usize,
-    n: usize,
-) -> Conditions
-    requires node_in { NodeIn schema.now table.now n }
-    requires rules_at { RulesAt (schema_of schema.now) p.now n count offsets.now }
-    requires n_value { four_numbers (node_at (schema_of schema.now) n).variables ≡ true }
-    ensures { ranges_in result ≡ combined (schema_of schema.now) (rules_at (schema_of schema.now) p.now n (take count offsets.now)) n }
+#[tactic(auto, using(crate::proofs::Numbers::four_number, crate::proofs::Numbers::four_inside, crate::proofs::Numbers::next_fits))]
+fn combine_numbers(policies: &Policies, n: usize) -> Conditions
+    requires n_in_bounds { n < length (schema_of policies.now.schema.bytes.now) }
+    requires n_value { four_numbers (node_at (schema_of policies.now.schema.bytes.now) n).variables ≡ true }
+    ensures { ranges_in result ≡ combined (schema_of policies.now.schema.bytes.now) (noted (schema_of policies.now.schema.bytes.now) policies.now.bytes.now policies.now.rows.now) n }
 {
-    let skip = nodes::rank_count(schema, table, n);
-    let mut w = nodes::bounds_of(schema, table, n, 0);
-    let mut x = nodes::bounds_of(schema, table, n, 1);
-    let mut y = nodes::bounds_of(schema, table, n, 2);
-    let mut z = nodes::bounds_of(schema, table, n, 3);
-    let mut r: usize = 0;
-    while r < count {
-        let offset = offsets[r] as usize;
-        let ranks = &p[offset..];
+    let schema = &policies.schema;
+    let skip = schema.rank_count(n);
+    let mut w = schema.bounds(n, 0);
+    let mut x = schema.bounds(n, 1);
+    let mut y = schema.bounds(n, 2);
+    let mut z = schema.bounds(n, 3);
+    for at in policies.offsets(n) {
+        let ranks = &policies.bytes[usize::from(*at)..];
         w = narrow_at(ranks, skip, w);
         x = narrow_at(ranks, skip + SECOND, x);
         y = narrow_at(ranks, skip + THIRD, y);
         z = narrow_at(ranks, skip + FOURTH, z);
-        r += 1;
     }
-    let lo = [w.lo, x.lo, y.lo, z.lo];
-    let hi = [w.hi, x.hi, y.hi, z.hi];
-    let mask = [0u32; MOST_VARIABLES];
-    Conditions { lo, hi, mask }
+    Conditions {
+        lo: [w.lo, x.lo, y.lo, z.lo],
+        hi: [w.hi, x.hi, y.hi, z.hi],
+        mask: [0; MOST_VARIABLES],
+    }
 }
 
 // The bits of the least values of node n, which has four numbers, into its four slots; whether each has one left.
-fn least_numbers(
-    schema: &[u8],
-    table: &[u16],
-    p: &[u8],
-    offsets: &[u16],
-    count: usize,
-    n: usize,
-    bits: &mut [u32],
-) -> bool
-    requires node_in { NodeIn schema.now table.now n }
-    requires rules_at { RulesAt (schema_of schema.now) p.now n count offsets.now }
-    requires n_value { four_numbers (node_at (schema_of schema.now) n).variables ≡ true }
-    requires bits_room { BitsRoom schema.now bits.old }
-    ensures { LeastIn (schema_of schema.now) n (combined (schema_of schema.now) (rules_at (schema_of schema.now) p.now n (take count offsets.now)) n) bits.old bits.new result }
+#[tactic(auto, using(crate::proofs::FourLeast::stored_init, crate::proofs::FourLeast::stored_slot))]
+fn least_numbers(policies: &Policies, n: usize, bits: &mut [u32]) -> bool
+    requires n_in_bounds { n < length (schema_of policies.now.schema.bytes.now) }
+    requires n_value { four_numbers (node_at (schema_of policies.now.schema.bytes.now) n).variables ≡ true }
+    requires bits_room { BitsRoom policies.now.schema.bytes.now bits.old }
+    ensures { LeastIn (schema_of policies.now.schema.bytes.now) n (combined (schema_of policies.now.schema.bytes.now) (noted (schema_of policies.now.schema.bytes.now) policies.now.bytes.now policies.now.rows.now) n) bits.old bits.new result }
 {
-    let c = combine_numbers(schema, table, p, offsets, count, n);
+    let conditions = combine_numbers(policies, n);
     let slot = MOST_VARIABLES * n;
-    bits[slot] = fields::to_unsigned(c.lo[0]);
-    bits[slot + 1] = fields::to_unsigned(c.lo[1]);
-    bits[slot + 2] = fields::to_unsigned(c.lo[2]);
-    bits[slot + 3] = fields::to_unsigned(c.lo[3]);
-    if c.hi[0] < c.lo[0] {
-        return false;
+    for k in 0..MOST_VARIABLES {
+        bits[slot + k] = conditions.lo[k].cast_unsigned();
     }
-    if c.hi[1] < c.lo[1] {
-        return false;
-    }
-    if c.hi[2] < c.lo[2] {
-        return false;
-    }
-    if c.hi[3] < c.lo[3] {
-        return false;
-    }
-    true
+    conditions.have_numbers()
 }
 
 // The bits of node n's least values, found one after the other, into its four slots; whether each variable has one left.
-fn least_each(
-    schema: &[u8],
-    table: &[u16],
-    p: &[u8],
-    offsets: &[u16],
-    count: usize,
-    n: usize,
-    bits: &mut [u32],
-) -> bool
-    requires node_in { NodeIn schema.now table.now n }
-    requires rules_at { RulesAt (schema_of schema.now) p.now n count offsets.now }
-    requires bits_room { BitsRoom schema.now bits.old }
-    ensures { LeastIn (schema_of schema.now) n (combined (schema_of schema.now) (rules_at (schema_of schema.now) p.now n (take count offsets.now)) n) bits.old bits.new result }
+#[tactic(auto, using(crate::proofs::Least::finding_slot))]
+fn least_each(policies: &Policies, n: usize, bits: &mut [u32]) -> bool
+    requires n_in_bounds { n < length (schema_of policies.now.schema.bytes.now) }
+    requires bits_room { BitsRoom policies.now.schema.bytes.now bits.old }
+    ensures { LeastIn (schema_of policies.now.schema.bytes.now) n (combined (schema_of policies.now.schema.bytes.now) (noted (schema_of policies.now.schema.bytes.now) policies.now.bytes.now policies.now.rows.now) n) bits.old bits.new result }
 {
-    let v = nodes::variable_count(schema, table, n);
-    let mut c = Conditions {
-        lo: [0i32; MOST_VARIABLES],
-        hi: [0i32; MOST_VARIABLES],
-        mask: [0u32; MOST_VARIABLES],
-    };
-    let mut skip = nodes::rank_count(schema, table, n);
-    let mut k: usize = 0;
-    while k < v {
-        match nodes::variable_of(schema, table, n, k) {
-            Variable::Number { lo, hi } => {
-                let x = narrow_range(p, offsets, count, skip, lo, hi);
-                let Bounds { lo, hi } = x;
-                c.lo[k] = lo;
-                c.hi[k] = hi;
-                if c.hi[k] < c.lo[k] {
-                    return false;
-                }
-                bits[MOST_VARIABLES * n + k] = fields::to_unsigned(c.lo[k]);
-                skip += RANGE_WIDTH;
-                k += 1;
+    let schema = &policies.schema;
+    let offsets = policies.offsets(n);
+    let mut conditions = Conditions::new();
+    let mut skip = schema.rank_count(n);
+    for k in 0..schema.variable_count(n) {
+        let v = schema.variable(n, k);
+        conditions.combine(k, v, policies.bytes, offsets, skip);
+        match conditions.least(k, v) {
+            None => {
+                return false;
             }
-            Variable::Listed { size } => {
-                c.mask[k] = narrow_mask(p, offsets, count, skip, size);
-                if c.mask[k] == 0 {
-                    return false;
-                }
-                bits[MOST_VARIABLES * n + k] = numbers::least_value(c.mask[k]);
-                skip += MASK_WIDTH;
-                k += 1;
+            Some(u) => {
+                bits[MOST_VARIABLES * n + k] = u;
             }
         }
+        skip += policies::span(v);
     }
     true
 }
 
 // The bits of node n's least values, under all conditions, into its four slots; whether each variable has one left.
-pub fn least_values(
-    schema: &[u8],
-    table: &[u16],
-    p: &[u8],
-    rows: &[u16],
-    n: usize,
-    bits: &mut [u32],
-) -> bool
-    requires node_in { NodeIn schema.now table.now n }
-    requires noted { Noted schema.now p.now rows.now }
-    requires bits_room { BitsRoom schema.now bits.old }
-    ensures { LeastIn (schema_of schema.now) n (combined (schema_of schema.now) (noted (schema_of schema.now) p.now rows.now) n) bits.old bits.new result }
+#[tactic(auto, using(crate::proofs::Numbers::four_told))]
+pub fn least_values(policies: &Policies, n: usize, bits: &mut [u32]) -> bool
+    requires node_in { n < length (schema_of policies.now.schema.bytes.now) }
+    requires bits_room { BitsRoom policies.now.schema.bytes.now bits.old }
+    ensures { LeastIn (schema_of policies.now.schema.bytes.now) n (combined (schema_of policies.now.schema.bytes.now) (noted (schema_of policies.now.schema.bytes.now) policies.now.bytes.now policies.now.rows.now) n) bits.old bits.new result }
 {
-    if nodes::variable_count(schema, table, n) == 0 {
+    if policies.schema.variable_count(n) == 0 {
         return true;
     }
-    let row = ROW_SLOTS * n;
-    let count = rows[row] as usize;
-    let first = row + 1;
-    if has_four_numbers(schema, table, n) {
-        return least_numbers(schema, table, p, &rows[first..], count, n, bits);
+    if has_four_numbers(&policies.schema, n) {
+        return least_numbers(policies, n, bits);
     }
-    least_each(schema, table, p, &rows[first..], count, n, bits)
+    least_each(policies, n, bits)
 }
 
-// Whether the condition that stands so far from the first rank of a PN, with which the slice begins, admits a number.
-fn range_admits(ranks: &[u8], skip: usize, x: i32) -> bool
-    requires { skip + range_width ≤ length ranks.now }
-    ensures { result ≡ in_range ranks.now skip x }
+// Whether a number is admitted by the condition that stands so far from the first rank of the PN whose ranks begin at an offset.
+#[tactic(auto, using(crate::proofs::Admitting::range_below))]
+fn range_admits(p: &[u8], at: usize, skip: usize, x: i32) -> bool
+    requires { at + (skip + range_width) ≤ length p.now }
+    ensures { result ≡ in_range (drop at p.now) skip x }
 {
-    if fields::i32_at(ranks, skip) <= x {
-        if x <= fields::i32_at(ranks, skip + 4) {
-            return true;
-        }
-        return false;
-    }
-    false
+    let ranks = &p[at..];
+    i32::get(ranks, skip) <= x && x <= i32::get(ranks, skip + 4)
 }
 
 // The same of a listed variable's value.
-fn mask_admits(ranks: &[u8], skip: usize, x: u32) -> bool
-    requires { skip + mask_width ≤ length ranks.now }
-    ensures { result ≡ in_mask ranks.now skip x }
+#[tactic(auto, using(crate::proofs::Admitting::mask_bits))]
+fn mask_admits(p: &[u8], at: usize, skip: usize, x: u32) -> bool
+    requires { at + (skip + mask_width) ≤ length p.now }
+    ensures { result ≡ in_mask (drop at p.now) skip x }
 {
-    let mask = fields::u32_at(ranks, skip);
-    if x < 32 {
-        return numbers::has(mask as u64, x as usize);
-    }
-    false
+    let mask = u64::from(u32::get(&p[at..], skip));
+    x < 32 && numbers::has(mask, x as usize)
 }
 
 // Whether the conditions that stand so far from the offsets all admit a number.
-fn ranges_admit(p: &[u8], offsets: &[u16], count: usize, skip: usize, x: i32) -> bool
-    requires { BytesAt p.now count offsets.now (skip + range_width) }
-    ensures { result ≡ in_ranges p.now skip (take count offsets.now) x }
+#[tactic(auto, unfolding(crate::specs::Rules::in_ranges))]
+fn ranges_admit(p: &[u8], offsets: &[u16], skip: usize, x: i32) -> bool
+    requires { All (λ o. o + (skip + range_width) ≤ length p.now) offsets.now }
+    ensures { result ≡ in_ranges p.now skip offsets.now x }
 {
-    let mut r: usize = 0;
-    while r < count {
-        let offset = offsets[r] as usize;
-        if range_admits(&p[offset..], skip, x) {
-            r += 1;
-        } else {
-            return false;
-        }
-    }
-    true
+    offsets
+        .iter()
+        .all(|at| range_admits(p, usize::from(*at), skip, x))
 }
 
 // The same of a listed variable's value.
-fn masks_admit(p: &[u8], offsets: &[u16], count: usize, skip: usize, x: u32) -> bool
-    requires { BytesAt p.now count offsets.now (skip + mask_width) }
-    ensures { result ≡ in_masks p.now skip (take count offsets.now) x }
+#[tactic(auto, unfolding(crate::specs::Rules::in_masks))]
+fn masks_admit(p: &[u8], offsets: &[u16], skip: usize, x: u32) -> bool
+    requires { All (λ o. o + (skip + mask_width) ≤ length p.now) offsets.now }
+    ensures { result ≡ in_masks p.now skip offsets.now x }
 {
-    let mut r: usize = 0;
-    while r < count {
-        let offset = offsets[r] as usize;
-        if mask_admits(&p[offset..], skip, x) {
-            r += 1;
-        } else {
-            return false;
-        }
-    }
-    true
+    offsets
+        .iter()
+        .all(|at| mask_admits(p, usize::from(*at), skip, x))
 }
 
 // Whether every policy that the rows note admits the value with these bits of node n's variable k, whose condition stands so
 // far from the first rank.
-pub fn is_admitted(
-    schema: &[u8],
-    table: &[u16],
-    p: &[u8],
-    rows: &[u16],
-    n: usize,
-    k: usize,
-    skip: usize,
-    bits: u32,
-) -> bool
-    requires node_in { NodeIn schema.now table.now n }
-    requires noted { Noted schema.now p.now rows.now }
-    requires k_in_bounds { k < length (node_at (schema_of schema.now) n).variables }
-    requires skip_value { skip ≡ offset_of (node_at (schema_of schema.now) n) k }
-    ensures { result ≡ admitted (noted (schema_of schema.now) p.now rows.now) n k (variable_at (schema_of schema.now) n k) (value_of (variable_at (schema_of schema.now) n k) bits) }
+#[tactic(auto, using(crate::proofs::Row::number_bytes, crate::proofs::Row::number_admitted, crate::proofs::Row::listed_bytes, crate::proofs::Row::listed_admitted))]
+pub fn is_admitted(policies: &Policies, n: usize, k: usize, skip: usize, bits: u32) -> bool
+    requires node_in { n < length (schema_of policies.now.schema.bytes.now) }
+    requires k_in_bounds { k < length (node_at (schema_of policies.now.schema.bytes.now) n).variables }
+    requires skip_value { skip ≡ offset_of (node_at (schema_of policies.now.schema.bytes.now) n) k }
+    ensures { result ≡ admitted (noted (schema_of policies.now.schema.bytes.now) policies.now.bytes.now policies.now.rows.now) n k (variable_at (schema_of policies.now.schema.bytes.now) n k) (value_of (variable_at (schema_of policies.now.schema.bytes.now) n k) bits) }
 {
-    let row = ROW_SLOTS * n;
-    let count = rows[row] as usize;
-    let first = row + 1;
-    match nodes::variable_of(schema, table, n, k) {
-        Variable::Number { lo: _, hi: _ } => {
-            ranges_admit(p, &rows[first..], count, skip, fields::to_signed(bits))
+    let offsets = policies.offsets(n);
+    match policies.schema.variable(n, k) {
+        Variable::Number { .. } => {
+            ranges_admit(policies.bytes, offsets, skip, bits.cast_signed())
         }
-        Variable::Listed { size: _ } => masks_admit(p, &rows[first..], count, skip, bits),
+        Variable::Listed { .. } => masks_admit(policies.bytes, offsets, skip, bits),
     }
 }

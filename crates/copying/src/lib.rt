@@ -4,12 +4,11 @@
 ghost use Rattle.fields.specs.Answers.{answer_of, judged};
 ghost use Rattle.fields.specs.Outcomes.{Did, leaving, placed};
 ghost use Rattle.schema.specs.Schema.{schema_of};
-ghost use Rattle.schema.specs.Table.{Accepted, Tabled};
 ghost use Rattle.instances.specs.File.{instance, encode};
 ghost use Rattle.calls.specs.Calls.{copying};
 
 use fields::{Fault, File, Refusal};
-use nodes::TABLE_SLOTS;
+use nodes::{Schema, TABLE_SLOTS};
 use schema::{MOST_NODES, MOST_VARIABLES};
 
 // A file into a buffer, or 14 where that is shorter.
@@ -26,16 +25,13 @@ fn deliver(file: &[u8], out: &mut [u8]) -> Result<usize, Refusal>
 
 // The instance, once the schema is accepted; the arrays that the reader fills are lent and not asked again.
 #[tactic(auto, using(fields::proofs::Mapped::mapped_ok, instances::proofs::Slots::bits_64, instance_reader::proofs::Decoded::instance_bad_did, crate::proofs::Copying::copied))]
-fn with_schema(schema: &[u8], table: &[u16], s: &[u8], out: &mut [u8]) -> Result<usize, Refusal>
-    requires accepted { Accepted schema.now }
-    requires tabled { Tabled schema.now table.now }
-    ensures { Did (judged (leaving out.old) 4 (instance (schema_of schema.now) s.now) (λ i. placed (encode (schema_of schema.now) i) out.old)) (answer_of (λ n. n) result) out.new }
+fn with_schema(schema: &Schema, s: &[u8], out: &mut [u8]) -> Result<usize, Refusal>
+    ensures { Did (judged (leaving out.old) 4 (instance (schema_of schema.now.bytes.now) s.now) (λ i. placed (encode (schema_of schema.now.bytes.now) i) out.old)) (answer_of (λ n. n) result) out.new }
 {
     let mut choices = [255u8; MOST_NODES];
     let mut bits = [0u32; MOST_VARIABLES * MOST_NODES];
-    instance_reader::read_instance(schema, table, s, &mut choices, &mut bits).map_err(
-        |breach| breach.of(File::Instance),
-    )?;
+    let read = instance_reader::read_instance(schema, s, &mut choices, &mut bits);
+    read.map_err(|breach| breach.of(File::Instance))?;
     deliver(s, out)
 }
 
@@ -47,5 +43,9 @@ pub fn copy(schema: &[u8], instance: &[u8], out: &mut [u8]) -> Result<usize, Ref
     let mut table = [0u16; TABLE_SLOTS];
     let mut sets = [0u64; MOST_NODES];
     schema::read_schema(schema, &mut table, &mut sets).map_err(|breach| breach.of(File::Schema))?;
-    with_schema(schema, &table, instance, out)
+    let schema = Schema {
+        bytes: schema,
+        table: &table,
+    };
+    with_schema(&schema, instance, out)
 }

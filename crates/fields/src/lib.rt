@@ -2,7 +2,7 @@
 #![tactic(auto)]
 
 ghost use Rattle.std.specs.Prelude.{◌≡◌, ℕ, ◌+◌, ◌≤◌, ◌<◌, ◌^◌, length, refl};
-ghost use Rattle.fields.specs.Reading.{be, signed};
+ghost use Rattle.fields.specs.Reading.{be};
 ghost use Rattle.fields.specs.declared.File.TheVariants.{NoFile};
 ghost use Rattle.fields.specs.Writing.{spell, unsigned, put};
 
@@ -172,34 +172,4 @@ impl BigEndian for i32 {
     fn put(self, b: &mut [u8], at: usize) {
         self.cast_unsigned().put(b, at);
     }
-}
-
-// The number that four bytes spell.
-pub fn u32_at(s: &[u8], at: usize) -> u32
-    requires { at + 4 ≤ length s.now }
-    ensures { result ≡ be 4 s.now at }
-{
-    u32::get(s, at)
-}
-
-// 32 bits read as two's complement.
-pub fn to_signed(u: u32) -> i32
-    ensures { result ≡ signed u }
-{
-    u.cast_signed()
-}
-
-// The 32 bits of a signed number.
-pub fn to_unsigned(z: i32) -> u32
-    ensures { result ≡ unsigned z }
-{
-    z.cast_unsigned()
-}
-
-// The signed number that four bytes spell.
-pub fn i32_at(s: &[u8], at: usize) -> i32
-    requires { at + 4 ≤ length s.now }
-    ensures { result ≡ signed (be 4 s.now at) }
-{
-    to_signed(u32_at(s, at))
 }

@@ -12,16 +12,11 @@ use Rattle.fields.specs.declared.Refusal.{Refusal}
 use Rattle.fields.specs.declared.File.TheVariants.{Policies as PoliciesFile, Pass as PassFile}
 use Rattle.fields.proofs.Reading.{stepped, stopped}
 use Rattle.schema.specs.Schema.{most_nodes, schema_of}
-use Rattle.schema.specs.Table.{Tabled, AtMost, SchemaIn}
 use Rattle.policies.specs.Policies.{policies}
 use Rattle.policies.specs.Pass.{pass}
 use Rattle.policy_reader.specs.Answers.{YieldsPolicies}
 use Rattle.calls.specs.Inputs.{with_policies, with_pass, with_in_force}
 use Rattle.inputs.specs.Inputs.{YieldsInForce}
-
--- the table, with the count of its nodes
-pub schema_in : (s t : List ℕ) {count : ℕ} → Tabled s t → AtMost most_nodes (length (schema_of s)) count → SchemaIn s t count
-schema_in s t T m = record { table = T; counted = m.is }
 
 module _ (s p : List ℕ) (a b : ℕ) (t : List ℕ) where
   pub policies_bad : {x : Breach} {r : Result Unit Refusal} → YieldsPolicies s p a b (Err x) t → r ≡ Err (record { fault = x.fault; file = PoliciesFile; offset = x.offset }) → YieldsInForce s p a b t r

@@ -1,32 +1,34 @@
 -- What the reader's returns ask, one law for each way that a function can end; a loop's law says that the rest from here equals the whole.
 -- Rests on the laws of reading of the crate fields, and on what the schema's accessors answer.
-use mathlib.Core.Path.{◌≡◌, refl, ap, sym, ◌∙◌, subst}
+use mathlib.Core.Path.{◌≡◌, refl, ap, ap₂, sym, ◌∙◌, subst}
 use mathlib.Core.Bool.{Bool, true, false, ◌||◌}
 use mathlib.Core.List.{List, [], ◌∷◌}
 use Prim.Native.Nat.{ℕ, zero, suc, ◌+◌, ◌*◌, ◌-◌, ◌^◌, ◌≤◌, ◌<◌}
 use native.Mathlib.Omega.{arith}
 use native.Mathlib.Nat.{add-zero}
-use borrow.Author.Tests.{eq-eqb, ne_eqb}
+use borrow.Author.Tests.{eq-eqb, eqb-true}
 use lib.Dec.{eqb}
 use lib.IntN.{ℤ}
 use lib.ListN.{length, get_or, set, drop, drop_of_length-le, length-set}
+use Rattle.std.specs.List.{list_any}
 use Rattle.fields.specs.Reading.{Got, got, bad, part, whole, field, mark}
 use Rattle.fields.specs.Answers.{end_of}
 use Rattle.fields.specs.Runs.{Run, did, refused, run_of}
 use Rattle.fields.proofs.Reading.{stepped, stopped}
 use Rattle.fields.proofs.Runs.{ran, failed}
 use Rattle.fields.proofs.Bytes.{Bytes}
+use Rattle.fields.proofs.Tests.{alike}
 use Rattle.numbers.specs.Bits.{bit, with, turned, with_all}
 use Rattle.numbers.specs.Lowest.{Lowest}
 use Rattle.schema.specs.Schema.{Node, schema_of, node_at, no_variable}
-use Rattle.schema.specs.Table.{Tabled, Accepted, NodeIn, AtMost, SuccessorIs}
+use Rattle.schema.specs.Table.{Accepted, AtMost}
 use Rattle.schema.specs.declared.Variable.{Variable}
 use Rattle.schema.proofs.Accepted.{sound}
 use Rattle.instances.specs.Instance.{Entry, elem, chooses, reaches, right_choice}
 use Rattle.instances.specs.File.{IN, due, none_below, value, values, entry_of, entry, entries}
 use Rattle.instances.specs.Plan.{BitsRoom}
-use Rattle.instances.proofs.Node.{links, links-more, links-none, vars-more}
-use Rattle.instances.proofs.Slots.{slot-room}
+use Rattle.instances.proofs.Node.{vars_more}
+use Rattle.instances.proofs.Slots.{slot_room}
 use Rattle.instances.proofs.Trip.{entry-took}
 use Rattle.instance_reader.specs.Decoded.{bits_of}
 use Rattle.instance_reader.specs.Reader.{in_bits, fill_values, fill_bits, entry_where, due_after, Within, AfterEntry, entry_run, Tables, fill_entry, fill_entries}
@@ -34,21 +36,17 @@ use Rattle.instance_reader.proofs.Due.{none-lowest, lowest_set, is-lowest, not-l
 
 -- ---- a choice
 
-module _ (g : List Node) (n j : ℕ) {c : ℕ} where
-  pub has_found : {x y : ℕ} {X : Bool} → elem x (drop j (links g n)) ≡ X → AtMost 8 (length (links g n)) c → j < c → SuccessorIs g n j y → x ≡ y → true ≡ X
-  has_found {x} {y} v l h e q = sym (ap (elem x) (links-more g n j l h e) ∙ ap (λ (b : Bool). b || elem x (drop (j + 1) (links g n))) (eq-eqb x y q)) ∙ v
-
-  pub has_more : {x y : ℕ} {X : Bool} → elem x (drop j (links g n)) ≡ X → AtMost 8 (length (links g n)) c → j < c → SuccessorIs g n j y → (x ≡ y → ⊥)
-      → elem x (drop (j + 1) (links g n)) ≡ X
-  has_more {x} {y} v l h e q = sym (ap (elem x) (links-more g n j l h e) ∙ ap (λ (b : Bool). b || elem x (drop (j + 1) (links g n))) (ne_eqb x y q)) ∙ v
-
-  pub has_done : (x : ℕ) {X : Bool} → elem x (drop j (links g n)) ≡ X → AtMost 8 (length (links g n)) c → c ≤ j → false ≡ X
-  has_done x v l h = sym (ap (elem x) (links-none g n j l h)) ∙ v
+-- whether c is among them, asked as the library asks it
+among : (c : ℕ) (xs : List ℕ) → list_any (λ y. eqb y c) xs ≡ elem c xs
+among c [] = refl
+among c (x ∷ xs) =
+    ap (λ (b : Bool). b || list_any (λ y. eqb y c) xs) (alike (eqb x c) (eqb c x) (λ t. eq-eqb c x (sym (eqb-true x c t))) (λ t. eq-eqb x c (sym (eqb-true c x t))))
+    ∙ ap (λ (b : Bool). eqb c x || b) (among c xs)
 
 module _ (x : Node) {b : Bool} (c : ℕ) where
-  pub right_one : {r : Bool} → b ≡ chooses x → b ≡ true → r ≡ elem c x.successors → r ≡ right_choice x c
+  pub right_one : {xs : List ℕ} {r : Bool} → b ≡ chooses x → b ≡ true → xs ≡ x.successors → r ≡ list_any (λ y. eqb y c) xs → r ≡ right_choice x c
   unfolding right_choice
-  right_one e t h = rw (sym e ∙ t) h
+  right_one {xs} e t q h = rw (sym e ∙ t) (h ∙ among c xs ∙ ap (elem c) q)
 
   pub right_none : b ≡ chooses x → b ≡ false → eqb c 255 ≡ right_choice x c
   unfolding right_choice
@@ -91,8 +89,8 @@ module _ (f s : List ℕ) (n : ℕ) (bits₀ : List ℕ) {X : Run (List ℕ)} (k
   abbrev node : Node
   node = node_at (schema_of f) n
 
-  pub values_room : (t : List ℕ) → NodeIn f t n → BitsRoom f bits₀ → k < c → 4 * n + k < length bits
-  values_room t i r h = let z = slot-room f t n i k bits₀ r l h in omega (arith, w.same)
+  pub values_room : n < length (schema_of f) → BitsRoom f bits₀ → k < c → 4 * n + k < length bits
+  values_room i r h = let z = slot_room f n i k bits₀ r l h in omega (arith, w.same)
 
   pub values_same : length bits ≡ length bits₀
   values_same = w.same
@@ -102,7 +100,7 @@ module _ (f s : List ℕ) (n : ℕ) (bits₀ : List ℕ) {X : Run (List ℕ)} (k
     opened = run_of (fill_values (v ∷ drop (k + 1) node.variables) (4 * n + k)) (values s (v ∷ drop (k + 1) node.variables) p) bits
 
     is-left : opened ≡ X
-    is-left = sym (ap (λ (vs : List Variable). run_of (fill_values vs (4 * n + k)) (values s vs p) bits) (vars-more node k l h e)) ∙ w.left
+    is-left = sym (ap (λ (vs : List Variable). run_of (fill_values vs (4 * n + k)) (values s vs p) bits) (vars_more node k l h e)) ∙ w.left
 
     pub values_bad : {m o : ℕ} → bad m o ≡ in_bits v (value s v p) → refused m o ≡ X
     unfolding values part
@@ -143,14 +141,14 @@ module _ (g : List Node) (n m : ℕ) (s : List ℕ) (p : ℕ) (choices bits : Li
       unfolding entry_of field part
       rest_value y = rw (← e, sym c ∙ t, failed (fill_values (node_at g n).variables (4 * n)) (values s (node_at g n).variables q) bits y)
 
-      pub rest_ok : {r d i : ℕ} {after : List ℕ} → did r after ≡ run_of (fill_values (node_at g n).variables (4 * n)) (values s (node_at g n).variables q) bits
-          → i ≡ turned m n → d ≡ with_all i (reaches (node_at g n) v)
+      pub rest_ok : {r d i u : ℕ} {after : List ℕ} → did r after ≡ run_of (fill_values (node_at g n).variables (4 * n)) (values s (node_at g n).variables q) bits
+          → i ≡ turned m n → u ≡ v → d ≡ with_all i (reaches (node_at g n) u)
           → did r (record { node = n; due = d; choices = set choices n v; bits = after }) ≡ entry_run g m (entry_of s g n p) choices bits
       unfolding entry_of field part due_after fill_bits
-      rest_ok {r} {d} {i} {after} y x z =
+      rest_ok {r} {d} {i} {u} {after} y x w z =
           let a = ran (fill_values (node_at g n).variables (4 * n)) (values s (node_at g n).variables q) bits after y in
           rw (← e, sym c ∙ t, a.read)
-          (λ j. did r (record { node = n; due = (z ∙ ap (λ (k : ℕ). with_all k (reaches (node_at g n) v)) x) j; choices = set choices n v; bits = a.is j }))
+          (λ j. did r (record { node = n; due = (z ∙ ap₂ (λ (k c : ℕ). with_all k (reaches (node_at g n) c)) x w) j; choices = set choices n v; bits = a.is j }))
 
 module _ (g : List Node) (m : ℕ) (s : List ℕ) (p : ℕ) (choices bits : List ℕ) where
   pub entry_mark : {n o : ℕ} → bad n o ≡ end_of (mark IN s p) → refused n o ≡ entry_run g m (entry_where s g (bit m) p) choices bits
@@ -177,8 +175,8 @@ module _ (g : List Node) (m : ℕ) (s : List ℕ) (p : ℕ) (choices bits : List
         entry_this n y = rw ((stepped (mark IN s p) h).1, ← e, is-lowest m v z w k n) y
 
 -- the lowest node that is due is one of the schema's
-pub lowest_node : (s t : List ℕ) (m v : ℕ) {l : ℕ} → Within m (length (schema_of s)) → (m ≡ 0 → ⊥) → m < 2 ^ 64 → Lowest 64 m l → v ≡ l → Tabled s t → NodeIn s t v
-lowest_node s t m v {l} w z h e i k = record { table = k; below = let y = w.within l (lowest_set m l z h e) in omega arith }
+pub lowest_node : (s : List ℕ) (m v : ℕ) {l : ℕ} → Within m (length (schema_of s)) → (m ≡ 0 → ⊥) → m < 2 ^ 64 → Lowest 64 m l → v ≡ l → v < length (schema_of s)
+lowest_node s m v {l} w z h e i = let y = w.within l (lowest_set m l z h e) in omega arith
 
 -- ---- the entries
 

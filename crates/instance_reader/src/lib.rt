@@ -1,19 +1,19 @@
 // The reader of instance files: what it accepts it decodes, into the arrays of a plan.
 #![tactic(auto)]
 
-ghost use Rattle.std.specs.Prelude.{◌≡◌, [], length, replicate};
+ghost use Rattle.std.specs.Prelude.{◌≡◌, ◌<◌, [], length, replicate};
 ghost use Rattle.fields.specs.Answers.{as_got};
 ghost use Rattle.fields.specs.Runs.{outcome, run_of};
 ghost use Rattle.numbers.specs.Bits.{bit};
 ghost use Rattle.schema.specs.Schema.{most_nodes, schema_of, node_at};
-ghost use Rattle.schema.specs.Table.{Tabled, Accepted, NodeIn};
-ghost use Rattle.instances.specs.Instance.{elem, right_choice};
+ghost use Rattle.instances.specs.Instance.{right_choice};
 ghost use Rattle.instances.specs.File.{value, values, entry_of, entries};
 ghost use Rattle.instances.specs.Plan.{values_slot, BitsRoom};
 ghost use Rattle.instance_reader.specs.Decoded.{YieldsInstance};
 ghost use Rattle.instance_reader.specs.Reader.{in_bits, fill_values, entry_where, entry_outcome, entry_run, Within, fill_entries, entries_outcome, emptied};
 
 use fields::{Breach, Fault};
+use nodes::Schema;
 use reading::{read, read_mark};
 use schema::{MOST_NODES, MOST_VARIABLES, Variable};
 
@@ -24,26 +24,13 @@ struct Visit {
     due: u64,
 }
 
-#[tactic(auto, using(crate::proofs::Reader::has_found, crate::proofs::Reader::has_more, crate::proofs::Reader::has_done))]
-fn has_successor(schema: &[u8], table: &[u16], n: usize, x: usize) -> bool
-    requires { NodeIn schema.now table.now n }
-    ensures { result ≡ elem x (node_at (schema_of schema.now) n).successors }
-{
-    for j in 0..nodes::successor_count(schema, table, n) {
-        if x == nodes::successor_of(schema, table, n, j) {
-            return true;
-        }
-    }
-    false
-}
-
 #[tactic(auto, using(crate::proofs::Reader::right_one))]
-fn right_choice(schema: &[u8], table: &[u16], n: usize, c: usize) -> bool
-    requires { NodeIn schema.now table.now n }
-    ensures { result ≡ right_choice (node_at (schema_of schema.now) n) c }
+fn right_choice(schema: &Schema, n: usize, c: u8) -> bool
+    requires { n < length (schema_of schema.now.bytes.now) }
+    ensures { result ≡ right_choice (node_at (schema_of schema.now.bytes.now) n) c }
 {
-    if instances::chooses(schema, table, n) {
-        return has_successor(schema, table, n, c);
+    if instances::chooses(schema, n) {
+        return schema.successors(n).contains(&c);
     }
     c == 255
 }
@@ -53,7 +40,7 @@ fn read_number(lo: i32, hi: i32, s: &[u8], at: usize) -> Result<(u32, usize), Br
     ensures { as_got result ≡ in_bits (Variable.Number lo hi) (value s.now (Variable.Number lo hi) at) }
 {
     let (value, next) = read::<i32>(s, at)?;
-    if lo <= value && value <= hi {
+    if (lo..=hi).contains(&value) {
         return Ok((value.cast_unsigned(), next));
     }
     Err(Breach::new(Fault::Value, at))
@@ -83,20 +70,19 @@ fn read_value(v: Variable, s: &[u8], at: usize) -> Result<(u32, usize), Breach>
 // Node n's values, their bits into its slots.
 #[tactic(auto, using(crate::proofs::Reader::values_init, crate::proofs::Reader::values_room, crate::proofs::Reader::values_same, crate::proofs::Reader::values_bad, crate::proofs::Reader::values_step, crate::proofs::Reader::values_exit))]
 fn read_values(
-    schema: &[u8],
-    table: &[u16],
+    schema: &Schema,
     n: usize,
     s: &[u8],
     from: usize,
     bits: &mut [u32],
 ) -> Result<usize, Breach>
-    requires node_in { NodeIn schema.now table.now n }
-    requires bits_room { BitsRoom schema.now bits.old }
-    ensures { outcome result bits.new ≡ run_of (fill_values (node_at (schema_of schema.now) n).variables (values_slot n)) (values s.now (node_at (schema_of schema.now) n).variables from) bits.old }
+    requires node_in { n < length (schema_of schema.now.bytes.now) }
+    requires bits_room { BitsRoom schema.now.bytes.now bits.old }
+    ensures { outcome result bits.new ≡ run_of (fill_values (node_at (schema_of schema.now.bytes.now) n).variables (values_slot n)) (values s.now (node_at (schema_of schema.now.bytes.now) n).variables from) bits.old }
 {
     let mut at = from;
-    for k in 0..nodes::variable_count(schema, table, n) {
-        let v = nodes::variable_of(schema, table, n, k);
+    for k in 0..schema.variable_count(n) {
+        let v = schema.variable(n, k);
         let (u, next) = read_value(v, s, at)?;
         bits[MOST_VARIABLES * n + k] = u;
         at = next;
@@ -105,10 +91,9 @@ fn read_values(
 }
 
 // Node n's choice and values.
-#[tactic(auto, using(crate::proofs::Reader::rest_cut, crate::proofs::Reader::rest_choice, crate::proofs::Reader::rest_value, crate::proofs::Reader::rest_ok))]
+#[tactic(auto, using(crate::proofs::Reader::rest_cut, crate::proofs::Reader::rest_value))]
 fn read_entry_of(
-    schema: &[u8],
-    table: &[u16],
+    schema: &Schema,
     n: usize,
     due: u64,
     s: &[u8],
@@ -116,70 +101,64 @@ fn read_entry_of(
     choices: &mut [u8; MOST_NODES],
     bits: &mut [u32],
 ) -> Result<(Visit, usize), Breach>
-    requires node_in { NodeIn schema.now table.now n }
+    requires node_in { n < length (schema_of schema.now.bytes.now) }
     requires choices_len { length choices.old ≡ most_nodes }
-    requires bits_room { BitsRoom schema.now bits.old }
-    ensures { entry_outcome result choices.new bits.new ≡ entry_run (schema_of schema.now) due (entry_of s.now (schema_of schema.now) n from) choices.old bits.old }
+    requires bits_room { BitsRoom schema.now.bytes.now bits.old }
+    ensures { entry_outcome result choices.new bits.new ≡ entry_run (schema_of schema.now.bytes.now) due (entry_of s.now (schema_of schema.now.bytes.now) n from) choices.old bits.old }
 {
     let (choice, at) = read::<u8>(s, from)?;
-    let c = choice as usize;
-    if !right_choice(schema, table, n, c) {
+    if !right_choice(schema, n, choice) {
         return Err(Breach::new(Fault::Choice, from));
     }
     choices[n] = choice;
-    let next = read_values(schema, table, n, s, at, bits)?;
-    let due = instances::reach(schema, table, n, c, numbers::turned_bit(due, n));
+    let next = read_values(schema, n, s, at, bits)?;
+    let due = instances::reach(schema, n, usize::from(choice), numbers::turned_bit(due, n));
     Ok((Visit { node: n, due }, next))
 }
 
 // An entry, of the lowest of the nodes that are due.
 #[tactic(auto, using(crate::proofs::Reader::entry_mark, crate::proofs::Reader::entry_cut, crate::proofs::Reader::entry_none, crate::proofs::Reader::entry_other, crate::proofs::Reader::entry_this, crate::proofs::Reader::lowest_node))]
 fn read_entry(
-    schema: &[u8],
-    table: &[u16],
+    schema: &Schema,
     due: u64,
     s: &[u8],
     from: usize,
     choices: &mut [u8; MOST_NODES],
     bits: &mut [u32],
 ) -> Result<(Visit, usize), Breach>
-    requires tabled { Tabled schema.now table.now }
-    requires within { Within due (length (schema_of schema.now)) }
+    requires within { Within due (length (schema_of schema.now.bytes.now)) }
     requires choices_len { length choices.old ≡ most_nodes }
-    requires bits_room { BitsRoom schema.now bits.old }
-    ensures { entry_outcome result choices.new bits.new ≡ entry_run (schema_of schema.now) due (entry_where s.now (schema_of schema.now) (bit due) from) choices.old bits.old }
+    requires bits_room { BitsRoom schema.now.bytes.now bits.old }
+    ensures { entry_outcome result choices.new bits.new ≡ entry_run (schema_of schema.now.bytes.now) due (entry_where s.now (schema_of schema.now.bytes.now) (bit due) from) choices.old bits.old }
 {
     let at = read_mark(s, from, b"IN")?;
     let (node, next) = read::<u8>(s, at)?;
-    let n = node as usize;
+    let n = usize::from(node);
     if due == 0 || n != numbers::lowest(due) {
         return Err(Breach::new(Fault::Entry, at));
     }
-    read_entry_of(schema, table, n, due, s, next, choices, bits)
+    read_entry_of(schema, n, due, s, next, choices, bits)
 }
 
 // m entries, each node once: the nodes that are due are the bits of a number, and so are, in the answer, those that have an entry.
 #[tactic(auto, using(crate::proofs::Reader::going_init, crate::proofs::Reader::going_within, crate::proofs::Reader::going_long, crate::proofs::Reader::going_room, crate::proofs::Reader::going_same, crate::proofs::Reader::going_after, crate::proofs::Reader::going_exit, crate::proofs::Reader::going_due, crate::proofs::Reader::going_bad, crate::proofs::Reader::going_step))]
 fn read_entries(
-    schema: &[u8],
-    table: &[u16],
+    schema: &Schema,
     s: &[u8],
     m: u8,
     from: usize,
     choices: &mut [u8; MOST_NODES],
     bits: &mut [u32],
 ) -> Result<(u64, usize), Breach>
-    requires accepted { Accepted schema.now }
-    requires tabled { Tabled schema.now table.now }
     requires choices_len { length choices.old ≡ most_nodes }
-    requires bits_room { BitsRoom schema.now bits.old }
-    ensures { entries_outcome result choices.new bits.new ≡ run_of (fill_entries (schema_of schema.now)) (entries s.now (schema_of schema.now) m [] from) (emptied choices.old bits.old) }
+    requires bits_room { BitsRoom schema.now.bytes.now bits.old }
+    ensures { entries_outcome result choices.new bits.new ≡ run_of (fill_entries (schema_of schema.now.bytes.now)) (entries s.now (schema_of schema.now.bytes.now) m [] from) (emptied choices.old bits.old) }
 {
     let mut due: u64 = 1;
     let mut nodes: u64 = 0;
     let mut at = from;
     for _turn in 0..m {
-        let (visit, next) = read_entry(schema, table, due, s, at, choices, bits)?;
+        let (visit, next) = read_entry(schema, due, s, at, choices, bits)?;
         nodes = numbers::with(nodes, visit.node);
         due = visit.due;
         at = next;
@@ -190,24 +169,21 @@ fn read_entries(
     Err(Breach::new(Fault::Entry, 2))
 }
 
-// The whole file, against an accepted schema and its table: the nodes that have an entry, as bits, with their choices and the
-// bits of their values in the arrays, which are lent.
+// The whole file, against an accepted schema: the nodes that have an entry, as bits, with their choices and the bits of their
+// values in the arrays, which are lent.
 pub fn read_instance(
-    schema: &[u8],
-    table: &[u16],
+    schema: &Schema,
     s: &[u8],
     choices: &mut [u8; MOST_NODES],
     bits: &mut [u32],
 ) -> Result<u64, Breach>
-    requires accepted { Accepted schema.now }
-    requires tabled { Tabled schema.now table.now }
     requires choices_value { choices.old ≡ replicate most_nodes 255 }
-    requires bits_room { BitsRoom schema.now bits.old }
-    ensures { YieldsInstance (schema_of schema.now) s.now choices.new bits.new result }
+    requires bits_room { BitsRoom schema.now.bytes.now bits.old }
+    ensures { YieldsInstance (schema_of schema.now.bytes.now) s.now choices.new bits.new result }
 {
     let at = read_mark(s, 0, b"IH")?;
     let (m, next) = read::<u8>(s, at)?;
-    let (nodes, end) = read_entries(schema, table, s, m, next, choices, bits)?;
+    let (nodes, end) = read_entries(schema, s, m, next, choices, bits)?;
     if end < s.len() {
         return Err(Breach::new(Fault::Remainder, end));
     }

@@ -10,7 +10,7 @@ use Rattle.numbers.specs.Bits.{turned, cardinality}
 use Rattle.numbers.specs.Lowest.{Lowest}
 use Rattle.numbers.proofs.Bits.{cardinality-none}
 use Rattle.schema.specs.Schema.{schema_of}
-use Rattle.schema.specs.Table.{Tabled, Accepted, NodeIn}
+use Rattle.schema.specs.Table.{Accepted}
 use Rattle.schema.proofs.Accepted.{sound}
 use Rattle.instances.specs.Instance.{Entry}
 use Rattle.instances.specs.Plan.{nodes_of, plan_of, held}
@@ -76,8 +76,8 @@ module _ (f choices bits : List ℕ) where
   pub held-count : Accepted f → Bytes f → cardinality (nodes_of (held f choices bits)) ≡ length (held f choices bits)
   held-count a b = count (own (schema_of f) choices bits) (few a b) (planned-ascending (plan_of (schema_of f) choices bits) (schema_of f))
 
-  pub walk-init : {P : List Entry → Type 0} {left : ℕ} → left ≡ nodes_of (held f choices bits) → P (held f choices bits) → Walk f choices bits P left
-  walk-init e h = record { rest = held f choices bits; low = 0; ascending = planned-ascending (plan_of (schema_of f) choices bits) (schema_of f); nodes = e; holds = h }
+  pub walk_init : {P : List Entry → Type 0} {left : ℕ} → left ≡ nodes_of (held f choices bits) → P (held f choices bits) → Walk f choices bits P left
+  walk_init e h = record { rest = held f choices bits; low = 0; ascending = planned-ascending (plan_of (schema_of f) choices bits) (schema_of f); nodes = e; holds = h }
 
 module _ {f choices bits : List ℕ} {P : List Entry → Type 0} {left : ℕ} (w : Walk f choices bits P left) where
   pub walk-exit : AtEnd f left → P []
@@ -95,11 +95,11 @@ module _ {f choices bits : List ℕ} {P : List Entry → Type 0} {left : ℕ} (w
     others-left : {u : ℕ} → u ≡ turned left n → u ≡ nodes_of walk_first.others
     others-left d = d ∙ ap (λ (x : ℕ). turned x n) w.nodes ∙ walk_first.nodes
 
-    pub walk-node : (s : List ℕ) → Tabled f s → NodeIn f s n
-    walk-node s k = record { table = k; below = walk_first.below }
+    pub walk_node : n < length (schema_of f)
+    walk_node = walk_first.below
 
-    pub walk-less : {u : ℕ} → u ≡ turned left n → cardinality u < cardinality left
-    walk-less d = omega (arith, walk_first.fewer, ap cardinality w.nodes, ap cardinality (others-left d))
+    pub walk_less : {u : ℕ} → u ≡ turned left n → cardinality u < cardinality left
+    walk_less d = omega (arith, walk_first.fewer, ap cardinality w.nodes, ap cardinality (others-left d))
 
     pub walk_step : {Q : List Entry → Type 0} {u : ℕ} → u ≡ turned left n → Q walk_first.others → Walk f choices bits Q u
     walk_step d h = record { rest = walk_first.others; low = suc n; ascending = walk_first.above; nodes = others-left d; holds = h }

@@ -1,12 +1,12 @@
 // Whether a node chooses, and which nodes it reaches.
 #![tactic(auto)]
 
-ghost use Rattle.std.specs.Prelude.{◌≡◌};
+ghost use Rattle.std.specs.Prelude.{◌≡◌, ◌<◌, length};
 ghost use Rattle.numbers.specs.Bits.{with_all};
 ghost use Rattle.schema.specs.Schema.{schema_of, node_at};
-ghost use Rattle.schema.specs.Table.{NodeIn};
 ghost use Rattle.instances.specs.Instance.{chooses, reaches};
 
+use nodes::Schema;
 use schema::{MOST_NODES, MOST_VARIABLES};
 
 // The bytes of a value: a number's, a listed variable's.
@@ -24,35 +24,32 @@ pub const MOST_BYTES: usize = HEAD_WIDTH
     + MOST_NODES * (ENTRY_WIDTH + MOST_VARIABLES * NUMBER_WIDTH);
 
 // Whether a node is of kind 1 and has successors.
-pub fn chooses(schema: &[u8], table: &[u16], n: usize) -> bool
-    requires { NodeIn schema.now table.now n }
-    ensures { result ≡ chooses (node_at (schema_of schema.now) n) }
+pub fn chooses(schema: &Schema, n: usize) -> bool
+    requires { n < length (schema_of schema.now.bytes.now) }
+    ensures { result ≡ chooses (node_at (schema_of schema.now.bytes.now) n) }
 {
-    0 < nodes::rank_count(schema, table, n)
+    0 < schema.rank_count(n)
 }
 
-fn with_successors(schema: &[u8], table: &[u16], n: usize, m: u64) -> u64
-    requires { NodeIn schema.now table.now n }
-    ensures { result ≡ with_all m (node_at (schema_of schema.now) n).successors }
+#[tactic(auto, using(crate::proofs::Node::with_more, crate::proofs::Node::with_done))]
+fn with_successors(schema: &Schema, n: usize, m: u64) -> u64
+    requires { n < length (schema_of schema.now.bytes.now) }
+    ensures { result ≡ with_all m (node_at (schema_of schema.now.bytes.now) n).successors }
 {
-    let c = nodes::successor_count(schema, table, n);
-    let mut j: usize = 0;
-    let mut r = m;
-    while j < c {
-        let x = nodes::successor_of(schema, table, n, j);
-        r = numbers::with(r, x);
-        j += 1;
+    let mut set = m;
+    for x in schema.successors(n) {
+        set = numbers::with(set, usize::from(*x));
     }
-    r
+    set
 }
 
 // The set with the nodes that node n reaches by choice c.
-pub fn reach(schema: &[u8], table: &[u16], n: usize, c: usize, m: u64) -> u64
-    requires { NodeIn schema.now table.now n }
-    ensures { result ≡ with_all m (reaches (node_at (schema_of schema.now) n) c) }
+pub fn reach(schema: &Schema, n: usize, c: usize, m: u64) -> u64
+    requires { n < length (schema_of schema.now.bytes.now) }
+    ensures { result ≡ with_all m (reaches (node_at (schema_of schema.now.bytes.now) n) c) }
 {
-    if chooses(schema, table, n) {
+    if chooses(schema, n) {
         return numbers::with(m, c);
     }
-    with_successors(schema, table, n, m)
+    with_successors(schema, n, m)
 }

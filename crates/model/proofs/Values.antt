@@ -18,7 +18,7 @@ use lib.ListN.{length, get_or}
 use lib.Signed.{le_z}
 use Rattle.fields.proofs.Tests.{and_yes, and-true, never, alike}
 use Rattle.numbers.specs.Bits.{bit, ones}
-use Rattle.numbers.specs.Signs.{max_z, min_z}
+use Rattle.std.specs.Int.{int_max, int_min}
 use Rattle.numbers.proofs.Signs.{le_z-refl, le_z-trans, max-le, le-max, min-le, le-min}
 use Rattle.numbers.proofs.Bits.{no-bit, and-bit, bit-and, ones_bit, bit_below, tz-bit, tz-least}
 use Rattle.schema.specs.Schema.{Node, node_at, no_variable}
@@ -68,16 +68,16 @@ both_typed (Listed size) (mask m) (mask k) t = omega (arith, and_le_l m k)
 both-admits : (v : Variable) (c d : Condition) (x : ℤ) → Typed v c → admits v (both c d) x ≡ admits v c x && admits v d x
 unfolding both admits
 both-admits (Number lo hi) (range a b) (range c d) x t =
-    alike (le_z (max_z a c) x && le_z x (min_z b d)) ((le_z a x && le_z x b) && (le_z c x && le_z x d)) there back
+    alike (le_z (int_max a c) x && le_z x (int_min b d)) ((le_z a x && le_z x b) && (le_z c x && le_z x d)) there back
   where
-    there : le_z (max_z a c) x && le_z x (min_z b d) ≡ true → (le_z a x && le_z x b) && (le_z c x && le_z x d) ≡ true
+    there : le_z (int_max a c) x && le_z x (int_min b d) ≡ true → (le_z a x && le_z x b) && (le_z c x && le_z x d) ≡ true
     there h =
-        let w = and-true (le_z (max_z a c) x) (le_z x (min_z b d)) h in
+        let w = and-true (le_z (int_max a c) x) (le_z x (int_min b d)) h in
         let u = max-le a c x w.0 in
         let v = min-le b d x w.1 in
         and_yes (and_yes u.0 v.0) (and_yes u.1 v.1)
 
-    back : (le_z a x && le_z x b) && (le_z c x && le_z x d) ≡ true → le_z (max_z a c) x && le_z x (min_z b d) ≡ true
+    back : (le_z a x && le_z x b) && (le_z c x && le_z x d) ≡ true → le_z (int_max a c) x && le_z x (int_min b d) ≡ true
     back h =
         let w = and-true (le_z a x && le_z x b) (le_z c x && le_z x d) h in
         let u = and-true (le_z a x) (le_z x b) w.0 in

@@ -5,7 +5,7 @@ use Rattle.std.specs.Int.Bits.{bit_and}
 use Rattle.std.specs.Int.Count.{count_trailing_zeros}
 use Rattle.std.specs.Int.Signed.{le_z}
 use Rattle.numbers.specs.Bits.{ones}
-use Rattle.numbers.specs.Signs.{max_z, min_z}
+use Rattle.std.specs.Int.{int_max, int_min}
 use Rattle.schema.specs.Schema.{Node, node_at}
 use Rattle.schema.specs.declared.Variable.{Variable}
 use Rattle.schema.specs.declared.Variable.TheVariants.{Number, Listed}
@@ -77,7 +77,7 @@ own (Listed size) = mask (ones size)
 
 -- what both admit, in the first one's type: the greatest lower and the least upper bound, 'compared as signed', or the bits in both masks
 unfoldable pub both : Condition → Condition → Condition
-both (range a b) (range c d) = range (max_z a c) (min_z b d)
+both (range a b) (range c d) = range (int_max a c) (int_min b d)
 both (range a b) (mask m) = range a b
 both (mask m) (range a b) = mask m
 both (mask m) (mask k) = mask (bit_and m k)

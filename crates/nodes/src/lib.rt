@@ -1,11 +1,13 @@
-// The tables of an accepted schema's nodes, by their length, and the accessors to its nodes.
-#![tactic(auto, using(crate::proofs::Numbers::of_nodes))]
+// An accepted schema with its table, what it tells of its nodes, and the tables by their length.
+#![tactic(auto, using(crate::proofs::Nodes::of_nodes))]
 
-ghost use Rattle.std.specs.Prelude.{◌≡◌, true, ◌<◌, length};
+ghost use Rattle.std.specs.Prelude.{ℕ, ◌≡◌, true, ◌<◌, length, get_or};
+ghost use mir.Val.{Fits};
+ghost use mir.Syntax.{w8};
 ghost use Rattle.schema.specs.Schema.{most_nodes, schema_of, node_at, variable_at, is_number};
 ghost use Rattle.schema.specs.declared.Variable.TheVariants.{Number};
 ghost use Rattle.schema.specs.Layout.{rank_count};
-ghost use Rattle.schema.specs.Table.{Accepted, NodeIn, AtMost, SuccessorIs};
+ghost use Rattle.schema.specs.Table.{Accepted, Tabled, AtMost};
 
 use fields::BigEndian;
 use schema::{MOST_NODES, NODE_SLOTS, Variable};
@@ -30,74 +32,79 @@ pub struct Bounds {
     pub hi: i32,
 }
 
-// The number of nodes.
-pub fn count_of(s: &[u8]) -> usize
-    requires { Accepted s.now }
-    ensures { AtMost most_nodes (length (schema_of s.now)) result }
-{
-    usize::from(s[2])
+// An accepted schema: the bytes of its file, and the table that its reader filled.
+#[derive(Clone, Copy)]
+pub struct Schema<'a> {
+    pub bytes: &'a [u8],
+    pub table: &'a [u16],
+    pub ghost accepted: { Accepted bytes.now },
+    pub ghost tabled: { Tabled bytes.now table.now },
+    pub ghost bytes_fit: { (k : ℕ) → Fits w8 (get_or bytes.now k 0) },
 }
 
-// The number of node n's successors.
-pub fn successor_count(s: &[u8], table: &[u16], n: usize) -> usize
-    requires { NodeIn s.now table.now n }
-    ensures { AtMost 8 (length (node_at (schema_of s.now) n).successors) result }
-{
-    let at = table[NODE_SLOTS * n] as usize;
-    usize::from(s[at + 3])
-}
-
-// Node n's successor j.
-pub fn successor_of(s: &[u8], table: &[u16], n: usize, j: usize) -> usize
-    requires node_in { NodeIn s.now table.now n }
-    requires j_in_bounds { j < length (node_at (schema_of s.now) n).successors }
-    ensures { SuccessorIs (schema_of s.now) n j result }
-{
-    let at = table[NODE_SLOTS * n] as usize;
-    usize::from(s[at + 4 + j])
-}
-
-// The number of node n's variables.
-pub fn variable_count(s: &[u8], table: &[u16], n: usize) -> usize
-    requires { NodeIn s.now table.now n }
-    ensures { AtMost 4 (length (node_at (schema_of s.now) n).variables) result }
-{
-    table[NODE_SLOTS * n + 7] as usize / 16
-}
-
-// The number of ranks that node n has in a PN.
-pub fn rank_count(s: &[u8], table: &[u16], n: usize) -> usize
-    requires { NodeIn s.now table.now n }
-    ensures { AtMost 8 (rank_count (node_at (schema_of s.now) n)) result }
-{
-    table[NODE_SLOTS * n + 7] as usize % 16
-}
-
-// Node n's variable k.
-pub fn variable_of(s: &[u8], table: &[u16], n: usize, k: usize) -> Variable
-    requires node_in { NodeIn s.now table.now n }
-    requires k_in_bounds { k < length (node_at (schema_of s.now) n).variables }
-    ensures { result ≡ variable_at (schema_of s.now) n k }
-{
-    let at = table[NODE_SLOTS * n + 1 + k] as usize;
-    if s[at] == 0 {
-        return Variable::Number {
-            lo: i32::get(s, at + 1),
-            hi: i32::get(s, at + 5),
-        };
+impl<'a> Schema<'a> {
+    // The number of nodes.
+    pub fn node_count(&self) -> usize
+        ensures { AtMost most_nodes (length (schema_of self.now.bytes.now)) result }
+    {
+        usize::from(self.bytes[2])
     }
-    Variable::Listed { size: s[at + 1] }
-}
 
-// The bounds of node n's variable k, a number.
-pub fn bounds_of(s: &[u8], table: &[u16], n: usize, k: usize) -> Bounds
-    requires node_in { NodeIn s.now table.now n }
-    requires k_in_bounds { k < length (node_at (schema_of s.now) n).variables }
-    requires k_value { is_number (variable_at (schema_of s.now) n k) ≡ true }
-    ensures { Number result.lo result.hi ≡ variable_at (schema_of s.now) n k }
-{
-    let at = table[NODE_SLOTS * n + 1 + k] as usize;
-    let lo = i32::get(s, at + 1);
-    let hi = i32::get(s, at + 5);
-    Bounds { lo, hi }
+    // Node n's successors, as its record has them.
+    pub fn successors(&self, n: usize) -> &'a [u8]
+        requires { n < length (schema_of self.now.bytes.now) }
+        ensures { result.now ≡ (node_at (schema_of self.now.bytes.now) n).successors }
+    {
+        let at = usize::from(self.table[NODE_SLOTS * n]);
+        let first = at + 4;
+        let count = usize::from(self.bytes[at + 3]);
+        &self.bytes[first..first + count]
+    }
+
+    // The number of node n's variables.
+    pub fn variable_count(&self, n: usize) -> usize
+        requires { n < length (schema_of self.now.bytes.now) }
+        ensures { AtMost 4 (length (node_at (schema_of self.now.bytes.now) n).variables) result }
+    {
+        usize::from(self.table[NODE_SLOTS * n + 7]) / 16
+    }
+
+    // The number of ranks that node n has in a PN.
+    pub fn rank_count(&self, n: usize) -> usize
+        requires { n < length (schema_of self.now.bytes.now) }
+        ensures { AtMost 8 (rank_count (node_at (schema_of self.now.bytes.now) n)) result }
+    {
+        usize::from(self.table[NODE_SLOTS * n + 7]) % 16
+    }
+
+    // Node n's variable k.
+    pub fn variable(&self, n: usize, k: usize) -> Variable
+        requires n_in_bounds { n < length (schema_of self.now.bytes.now) }
+        requires k_in_bounds { k < length (node_at (schema_of self.now.bytes.now) n).variables }
+        ensures { result ≡ variable_at (schema_of self.now.bytes.now) n k }
+    {
+        let at = usize::from(self.table[NODE_SLOTS * n + 1 + k]);
+        if self.bytes[at] == 0 {
+            return Variable::Number {
+                lo: i32::get(self.bytes, at + 1),
+                hi: i32::get(self.bytes, at + 5),
+            };
+        }
+        Variable::Listed {
+            size: self.bytes[at + 1],
+        }
+    }
+
+    // The bounds of node n's variable k, a number.
+    pub fn bounds(&self, n: usize, k: usize) -> Bounds
+        requires n_in_bounds { n < length (schema_of self.now.bytes.now) }
+        requires k_in_bounds { k < length (node_at (schema_of self.now.bytes.now) n).variables }
+        requires k_value { is_number (variable_at (schema_of self.now.bytes.now) n k) ≡ true }
+        ensures { Number result.lo result.hi ≡ variable_at (schema_of self.now.bytes.now) n k }
+    {
+        let at = usize::from(self.table[NODE_SLOTS * n + 1 + k]);
+        let lo = i32::get(self.bytes, at + 1);
+        let hi = i32::get(self.bytes, at + 5);
+        Bounds { lo, hi }
+    }
 }

@@ -8,7 +8,7 @@ use borrow.Author.Tests.{leb-true, le-leb, ltb-true, ltb-false}
 use lib.IntN.{ℤ, pos, negsuc}
 use lib.Signed.{le_z, lt_z}
 use Rattle.fields.proofs.Tests.{never}
-use Rattle.numbers.specs.Signs.{max_z, min_z}
+use Rattle.std.specs.Int.{int_max, int_min}
 
 pub le_z-refl : (a : ℤ) → le_z a a ≡ true
 le_z-refl (pos a) = le-leb a a (omega arith)
@@ -49,29 +49,29 @@ le_z-total a b = go (lt_z a b) refl
     go false e = inr (no_lt a b e)
 
 -- x is at or above the greater of a and b exactly if it is at or above both
-pub max-le : (a b x : ℤ) → le_z (max_z a b) x ≡ true → (le_z a x ≡ true) × (le_z b x ≡ true)
-max-le a b x h = go (lt_z a b) refl h
+pub max-le : (a b x : ℤ) → le_z (int_max a b) x ≡ true → (le_z a x ≡ true) × (le_z b x ≡ true)
+max-le a b x h = go (lt_z b a) refl h
   where
-    go : (q : Bool) → lt_z a b ≡ q → le_z (cond q b a) x ≡ true → (le_z a x ≡ true) × (le_z b x ≡ true)
-    go true e u = (le_z-trans a b x (lt-le a b e) u, u)
-    go false e u = (u, le_z-trans b a x (no_lt a b e) u)
+    go : (q : Bool) → lt_z b a ≡ q → le_z (cond q a b) x ≡ true → (le_z a x ≡ true) × (le_z b x ≡ true)
+    go true e u = (u, le_z-trans b a x (lt-le b a e) u)
+    go false e u = (le_z-trans a b x (no_lt b a e) u, u)
 
-pub le-max : (a b x : ℤ) → le_z a x ≡ true → le_z b x ≡ true → le_z (max_z a b) x ≡ true
-le-max a b x h k = go (lt_z a b)
+pub le-max : (a b x : ℤ) → le_z a x ≡ true → le_z b x ≡ true → le_z (int_max a b) x ≡ true
+le-max a b x h k = go (lt_z b a)
   where
-    go : (q : Bool) → le_z (cond q b a) x ≡ true
-    go true = k
-    go false = h
+    go : (q : Bool) → le_z (cond q a b) x ≡ true
+    go true = h
+    go false = k
 
 -- and at or below the lesser exactly if it is at or below both
-pub min-le : (a b x : ℤ) → le_z x (min_z a b) ≡ true → (le_z x a ≡ true) × (le_z x b ≡ true)
+pub min-le : (a b x : ℤ) → le_z x (int_min a b) ≡ true → (le_z x a ≡ true) × (le_z x b ≡ true)
 min-le a b x h = go (lt_z b a) refl h
   where
     go : (q : Bool) → lt_z b a ≡ q → le_z x (cond q b a) ≡ true → (le_z x a ≡ true) × (le_z x b ≡ true)
     go true e u = (le_z-trans x b a u (lt-le b a e), u)
     go false e u = (u, le_z-trans x a b u (no_lt b a e))
 
-pub le-min : (a b x : ℤ) → le_z x a ≡ true → le_z x b ≡ true → le_z x (min_z a b) ≡ true
+pub le-min : (a b x : ℤ) → le_z x a ≡ true → le_z x b ≡ true → le_z x (int_min a b) ≡ true
 le-min a b x h k = go (lt_z b a)
   where
     go : (q : Bool) → le_z x (cond q b a) ≡ true

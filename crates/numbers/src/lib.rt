@@ -1,23 +1,9 @@
-// Signed bounds, masks of values and sets of nodes.
+// Masks of values and sets of nodes.
 #![tactic(auto)]
 
 ghost use Rattle.std.specs.Prelude.{◌≡◌, ◌*◌, ◌/◌, ◌^◌, ◌<◌, ◌≤◌, ltb};
 ghost use Rattle.numbers.specs.Bits.{bit, ones, with, turned, without, cardinality};
-ghost use Rattle.numbers.specs.Signs.{max_z, min_z};
 ghost use Rattle.numbers.specs.Lowest.{Lowest};
-
-// The greater of two bounds, and the lesser.
-pub fn greater(a: i32, b: i32) -> i32
-    ensures { result ≡ max_z a b }
-{
-    if a < b { b } else { a }
-}
-
-pub fn lesser(a: i32, b: i32) -> i32
-    ensures { result ≡ min_z a b }
-{
-    if b < a { b } else { a }
-}
 
 // Whether node n is in the set.
 pub fn has(m: u64, n: usize) -> bool

@@ -23,7 +23,7 @@ use Rattle.instances.specs.Plan.{planned_from, planned, nodes_of, plan_of}
 use Rattle.model.specs.Reconciling.{can, plan, rules_of, reconcile, reconciled}
 use Rattle.planning.specs.Plan.{plan_for, Plans}
 use Rattle.planning.specs.Sweep.{Swept, Eligible, Reached}
-use Rattle.planning.specs.declared.Plan.TheVariants.{Infeasible, Feasible}
+use Rattle.std.specs.Prelude.{Some, None}
 
 -- ---- plans that agree on the nodes of the first one's instance
 
@@ -64,15 +64,15 @@ module _ (s : List ℕ) (qs : List Policy) (eligible bits : List ℕ) {feasible 
   root_is : {t : Bool} → b ≡ t → can g (rules_of g qs) 0 ≡ t
   root_is q = sym (w.known 0 (omega arith) A.some) ∙ sym e ∙ q
 
-  pub answer-eligible : b ≡ true → Eligible s qs eligible
-  answer-eligible q = record { root = root_is q; some-nodes = A.some; each = λ m h. w.eligible-is m (omega arith) h; room = w.eligible_room }
+  pub answer_eligible : b ≡ true → Eligible s qs eligible
+  answer_eligible q = record { root = root_is q; some-nodes = A.some; each = λ m h. w.eligible-is m (omega arith) h; room = w.eligible-room }
 
   -- the root is feasible
-  pub plans-some : (choices : List ℕ) {nodes : ℕ} → b ≡ true → Reached g qs choices nodes → Plans g (reconciled g qs) choices bits (Feasible nodes)
+  pub plans_some : (choices : List ℕ) {nodes : ℕ} → b ≡ true → Reached g qs choices nodes → Plans g (reconciled g qs) choices bits (Some nodes)
   unfolding plan_for reconciled reconcile plan plan_of
-  plans-some choices {nodes} q d =
+  plans_some choices {nodes} q d =
       record {
-        answer = rw (root_is q) (ap Feasible d.is);
+        answer = rw (root_is q) (ap Some d.is);
         holds = λ i z. sym held ∙ some-injective (planned g (plan g (rules_of g qs))) i (rw (root_is q) at z);
       }
     where
@@ -84,9 +84,9 @@ module _ (s : List ℕ) (qs : List Policy) (eligible bits : List ℕ) {feasible 
       held = planned-agree g (plan g (rules_of g qs)) (plan_of g choices bits) (λ n. refl) (nodes-few s) (λ m t. agree m (ap (λ (x : ℕ). bit x m) d.is ∙ t))
 
   -- or it is not
-  pub plans-none : (choices : List ℕ) → b ≡ false → Plans g (reconciled g qs) choices bits Infeasible
+  pub plans_none : (choices : List ℕ) → b ≡ false → Plans g (reconciled g qs) choices bits None
   unfolding plan_for reconciled reconcile
-  plans-none choices q =
+  plans_none choices q =
       record {
         answer = rw (root_is q) refl;
         holds = λ i z. let y : none ≡ some i = rw (root_is q) at z in absurd (let k : ◌≡◌ {A = ℕ} 0 1 = cc in omega arith);

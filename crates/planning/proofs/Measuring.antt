@@ -14,7 +14,7 @@ use Rattle.fields.proofs.Tests.{is-not}
 use Rattle.numbers.specs.Bits.{bit, with}
 use Rattle.numbers.proofs.Bits.{no-bit, with-bit}
 use Rattle.schema.specs.Schema.{Node, schema_of, node_at}
-use Rattle.schema.specs.Table.{Tabled, NodeIn, AtMost}
+use Rattle.schema.specs.Table.{AtMost}
 use Rattle.schema.proofs.Sound.{Sound}
 use Rattle.instances.specs.Instance.{Entry}
 use Rattle.instances.specs.File.{most_bytes, values_width, encode_entry, encode_entries, encode}
@@ -30,43 +30,37 @@ pub record Summing (g : List Node) (nodes n sum : ℕ) : Type 0 where
   pub most : sum ≤ 20 * n
   pub below : n ≤ length g
 
-pub summing-init : (g : List Node) (nodes : ℕ) → Summing g nodes 0 0
+pub summing_init : (g : List Node) (nodes : ℕ) → Summing g nodes 0 0
 unfolding entries_length
-summing-init g nodes = record { is = refl; most = omega arith; below = omega arith }
+summing_init g nodes = record { is = refl; most = omega arith; below = omega arith }
 
 module _ (f : List ℕ) (nodes n sum : ℕ) {c : ℕ} (w : Summing (schema_of f) nodes n sum) (l : AtMost 64 (length (schema_of f)) c) where
-  pub summing-exit : c ≤ n → AtMost 1280 (entries_length (schema_of f) nodes (length (schema_of f))) sum
-  summing-exit h =
+  pub summing_exit : c ≤ n → AtMost 1280 (entries_length (schema_of f) nodes (length (schema_of f))) sum
+  summing_exit h =
       let z : n ≡ length (schema_of f) = omega (arith, l.is, w.below) in
       record { is = w.is ∙ ap (entries_length (schema_of f) nodes) z; most = omega (arith, w.most, w.below, l.is, l.most) }
 
   module _ (h : n < c) where
-    pub summing-small : n < 64
-    summing-small = omega (arith, l.most)
+    pub summing_small : n < 64
+    summing_small = omega (arith, l.most)
 
-    pub summing-node : (t : List ℕ) → Tabled f t → NodeIn f t n
-    summing-node t e = record { table = e; below = omega (arith, l.is) }
-
-    pub summing-head-fits : Fits w64 (sum + 4)
-    summing-head-fits = record { fits = omega (arith, w.most, l.most) }
-
-    pub summing-fits : {x k : ℕ} → AtMost 16 x k → Fits w64 (sum + 4 + k)
-    summing-fits d = record { fits = omega (arith, w.most, l.most, d.most) }
+    pub summing_fits : {x k : ℕ} → AtMost 16 x k → Fits w64 (sum + (4 + k))
+    summing_fits d = record { fits = omega (arith, w.most, l.most, d.most) }
 
     module _ {t : Bool} (e : t ≡ bit nodes n) where
       next : {u : Bool} → t ≡ u → entries_length (schema_of f) nodes (n + 1) ≡ entries_length (schema_of f) nodes n + cond u (4 + values_width (node_at (schema_of f) n).variables) 0
       unfolding entries_length
       next q = let z : n + 1 ≡ suc n = omega arith in rw (z, sym e ∙ q)
 
-      pub summing-take : {k : ℕ} → t ≡ true → AtMost 16 (values_width (node_at (schema_of f) n).variables) k → Summing (schema_of f) nodes (n + 1) (sum + 4 + k)
-      summing-take q d = record { is = omega (arith, w.is, d.is, next q); most = omega (arith, w.most, d.most); below = omega (arith, l.is) }
+      pub summing_take : {k r : ℕ} → t ≡ true → AtMost 16 (values_width (node_at (schema_of f) n).variables) k → r ≡ sum + (4 + k) → Summing (schema_of f) nodes (n + 1) r
+      summing_take q d i = record { is = omega (arith, w.is, d.is, next q); most = omega (arith, w.most, d.most); below = omega (arith, l.is) }
 
-      pub summing-skip : t ≡ false → Summing (schema_of f) nodes (n + 1) sum
-      summing-skip q = record { is = omega (arith, w.is, next q); most = omega (arith, w.most); below = omega (arith, l.is) }
+      pub summing_skip : {r : ℕ} → t ≡ false → r ≡ sum → Summing (schema_of f) nodes (n + 1) r
+      summing_skip q i = record { is = omega (arith, w.is, next q); most = omega (arith, w.most); below = omega (arith, l.is) }
 
-pub file-sum : (g : List Node) (nodes : ℕ) {r : ℕ} → AtMost 1280 (entries_length g nodes (length g)) r → AtMost most_bytes (file_length g nodes) (3 + r)
+pub file_sum : (g : List Node) (nodes : ℕ) {r : ℕ} → AtMost 1280 (entries_length g nodes (length g)) r → AtMost most_bytes (file_length g nodes) (3 + r)
 unfolding file_length
-file-sum g nodes w = record { is = ap (λ (k : ℕ). 3 + k) w.is; most = omega (arith, w.most) }
+file_sum g nodes w = record { is = ap (λ (k : ℕ). 3 + k) w.is; most = omega (arith, w.most) }
 
 -- ---- a plan's file
 

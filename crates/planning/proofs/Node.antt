@@ -1,11 +1,11 @@
 -- One node's plan: the least values left, then the eligible successors of a node that chooses, or all successors feasible.
 -- Rests on the laws of its parts and on the model's step.
-use mathlib.Core.Path.{◌≡◌, refl, ap, sym, ◌∙◌}
+use mathlib.Core.Path.{◌≡◌, refl, ap, sym, subst, ◌∙◌}
 use mathlib.Core.Bool.{Bool, true, false, not, ◌&&◌, ◌||◌}
 use mathlib.Core.List.{List, []}
 use mathlib.Core.Option
 use mathlib.Core.Option.{Option, none, some}
-use Prim.Native.Nat.{ℕ, ◌*◌}
+use Prim.Native.Nat.{ℕ, ◌*◌, ◌≤◌, ◌<◌}
 use native.Mathlib.Omega.{arith}
 use borrow.Author.Tests.{eq-eqb, ne_eqb, eqb-true}
 use lib.Bits.{bit_and}
@@ -13,35 +13,46 @@ use lib.Dec.{eqb}
 use lib.IntN.{ℤ}
 use lib.ListN.{length, get_or, set, length-set}
 use lib.Seq.{get_or-set_same, get_or-set_other}
-use Rattle.fields.proofs.Bytes.{Bytes}
+use Rattle.std.specs.List.{All}
+use Rattle.std.proofs.lemmas.Grind.{get_or_default_zero}
 use Rattle.fields.proofs.Tests.{and_yes, and-true, never, alike}
 use Rattle.numbers.specs.Bits.{bit, with_all}
 use Rattle.numbers.proofs.Bits.{no-bit, all-bit, both-bit, no_bits, subset-in, in-subset}
 use Rattle.schema.specs.Schema.{Node, schema_of, node_at}
-use Rattle.schema.specs.Table.{SetsIn, NodeIn, AtMost}
+use Rattle.schema.specs.Table.{SetsIn}
 use Rattle.schema.proofs.Sound.{Sound}
-use Rattle.schema.proofs.Accepted.{sound}
+use Rattle.schema.proofs.Accepted.{sound_of}
 use Rattle.policies.specs.Policies.{Policy}
 use Rattle.instances.specs.Instance.{elem, chooses}
 use Rattle.instances.specs.Plan.{values_from}
-use Rattle.instances.proofs.Node.{chooses-columns}
 use Rattle.instances.proofs.Valid.{mem-elem, successor-in}
 use Rattle.model.specs.Satisfaction.{every, allowed}
 use Rattle.model.specs.Reconciling.{Rules, combined, is_some, taken, can_step, rules_of}
-use Rattle.model.proofs.Lists.{every-at, at_every}
+use Rattle.model.proofs.Lists.{every-at, at_every, at-elem}
 use Rattle.model.proofs.Ranks.{better-strict}
 use Rattle.model.proofs.Successors.{IsBest, no-best, a-best, best-is}
 use Rattle.conditions.specs.Least.{LeastIn}
 use Rattle.planning.specs.Plan.{EligibleRoom}
-use Rattle.planning.specs.Sweep.{Columns, Allowed, is_eligible, NodePlanned}
+use Rattle.planning.specs.Sweep.{Allowed, is_eligible, NodePlanned}
 
--- a node that chooses has a rank for each successor
-pub node-columns : (schema table : List ℕ) (n : ℕ) {columns : ℕ} → NodeIn schema table n → AtMost 8 (length (node_at (schema_of schema) n).successors) columns
-    → chooses (node_at (schema_of schema) n) ≡ true → Columns schema n columns
-node-columns schema table n h m q = record { below = h.below; is = m.is; ranked = m.is ∙ sym (chooses-columns (node_at (schema_of schema) n) q); most = m.most }
+pub node_chooses : (schema : List ℕ) (n : ℕ) {t : Bool} → t ≡ chooses (node_at (schema_of schema) n) → t ≡ true → chooses (node_at (schema_of schema) n) ≡ true
+node_chooses schema n e q = sym e ∙ q
 
-pub node-chooses : (schema : List ℕ) (n : ℕ) {t : Bool} → t ≡ chooses (node_at (schema_of schema) n) → t ≡ true → chooses (node_at (schema_of schema) n) ≡ true
-node-chooses schema n e q = sym e ∙ q
+-- its successors are few, and nodes
+module _ (schema : List ℕ) (n : ℕ) (h : n < length (schema_of schema)) (xs : List ℕ) (e : xs ≡ (node_at (schema_of schema) n).successors) where
+  pub successors_few : length xs ≤ 8
+  successors_few = omega (arith, ap length e, ((sound_of schema (omega arith)).nodes n h).few)
+
+  pub successors_small : All (λ x. x < 64) xs
+  successors_small k d l =
+      let A = sound_of schema (omega arith) in
+      let z = at-elem xs k l in
+      omega (
+        arith,
+        A.few,
+        get_or_default_zero xs k d l,
+        (successor-in (schema_of schema) A n (get_or xs k 0) (subst (λ (l : List ℕ). elem (get_or xs k 0) l ≡ true) e z)).1,
+      )
 
 -- the set of a node's successors
 pub successors-bit : (g : List Node) → Sound g → (n x : ℕ) → bit (with_all 0 (node_at g n).successors) x ≡ elem x (node_at g n).successors
@@ -94,7 +105,7 @@ module _ (g : List Node) (A : Sound g) (qs : List Policy) (n feasible : ℕ) whe
 
 -- ---- the node
 
-module _ (schema table : List ℕ) (qs : List Policy) (n feasible : ℕ) (eligible bits₀ bits : List ℕ) (h : NodeIn schema table n) where
+module _ (schema : List ℕ) (qs : List Policy) (n feasible : ℕ) (eligible bits₀ bits : List ℕ) (h : n < length (schema_of schema)) where
   abbrev g : List Node
   g = schema_of schema
 
@@ -102,15 +113,15 @@ module _ (schema table : List ℕ) (qs : List Policy) (n feasible : ℕ) (eligib
   rules = rules_of g qs
 
   -- no value left
-  pub node-nothing : {r : Bool} → LeastIn g n (combined g qs n) bits₀ bits r → r ≡ false → NodePlanned g qs n feasible eligible eligible bits₀ bits false
+  pub node_nothing : {r : Bool} → LeastIn g n (combined g qs n) bits₀ bits r → r ≡ false → NodePlanned g qs n feasible eligible eligible bits₀ bits false
   unfolding can_step
-  node-nothing {r} w e =
+  node_nothing {r} w e =
       let z : is_some (rules.least n) ≡ false = sym w.found ∙ e in
       record { is = rw z; eligible-is = λ q. never q; eligible-others = λ m v. refl; eligible-long = refl; values = λ q. never q; others = w.others; long = w.long }
 
-  module _ (y : Bytes schema) {r : Bool} (w : LeastIn g n (combined g qs n) bits₀ bits r) (e : r ≡ true) where
+  module _ {r : Bool} (w : LeastIn g n (combined g qs n) bits₀ bits r) (e : r ≡ true) where
     A : Sound g
-    A = sound schema y (let z = h.below in omega arith)
+    A = sound_of schema (omega arith)
 
     left : is_some (rules.least n) ≡ true
     left = sym w.found ∙ e
@@ -123,15 +134,15 @@ module _ (schema table : List ℕ) (qs : List Policy) (n feasible : ℕ) (eligib
       s = get_or sets n 0
 
       is_set : s ≡ with_all 0 (node_at g n).successors
-      is_set = v.each n h.below
+      is_set = v.each n h
 
-      pub node-choose : {k : ℕ} → q ≡ true → EligibleRoom schema eligible → Allowed g qs n (bit_and s feasible) k → NodePlanned g qs n feasible eligible (set eligible n k) bits₀ bits (not (eqb k 0))
+      pub node_choose : {k : ℕ} → q ≡ true → EligibleRoom schema eligible → Allowed g qs n (bit_and s feasible) k → NodePlanned g qs n feasible eligible (set eligible n k) bits₀ bits (not (eqb k 0))
       unfolding can_step
-      node-choose {k} t l d =
+      node_choose {k} t l d =
           let u : chooses (node_at g n) ≡ true = sym i ∙ t in
           record {
             is = rw (left, u) (eligible-some g A qs n feasible s k is_set d);
-            eligible-is = λ _ _ x. ap (λ (m : ℕ). bit m x) (get_or-set_same eligible n k 0 (let z = h.below in omega (arith, l.long))) ∙ eligible-bit g A qs n feasible s k is_set d x;
+            eligible-is = λ _ _ x. ap (λ (m : ℕ). bit m x) (get_or-set_same eligible n k 0 (omega (arith, l.long))) ∙ eligible-bit g A qs n feasible s k is_set d x;
             eligible-others = λ m z. get_or-set_other eligible n m k 0 z;
             eligible-long = length-set eligible n k;
             values = λ _. values-are;
@@ -139,9 +150,9 @@ module _ (schema table : List ℕ) (qs : List Policy) (n feasible : ℕ) (eligib
             long = w.long;
           }
 
-      pub node-all : q ≡ false → NodePlanned g qs n feasible eligible eligible bits₀ bits (eqb (bit_and s feasible) s)
+      pub node_all : q ≡ false → NodePlanned g qs n feasible eligible eligible bits₀ bits (eqb (bit_and s feasible) s)
       unfolding can_step
-      node-all t =
+      node_all t =
           let u : chooses (node_at g n) ≡ false = sym i ∙ t in
           record {
             is = rw (left, u) (all-feasible g A qs n feasible s is_set);

@@ -5,25 +5,25 @@ use mathlib.Core.Bool.{Bool, true, not}
 use mathlib.Core.List.{List}
 use mathlib.Core.Option
 use mathlib.Core.Option.{Option, none, some}
-use Prim.Native.Nat.{ℕ, ◌*◌, ◌<◌}
+use Prim.Native.Nat.{ℕ, ◌<◌}
 use native.Mathlib.Omega.{arith}
 use native.Mathlib.Decide.{ℕ_discrete}
-use borrow.Author.Tests.{le-ltb, ne_eqb}
-use lib.Dec.{ltb}
-use lib.ListN.{length, get_or}
-use Rattle.fields.proofs.Bytes.{Bytes}
+use borrow.Author.Tests.{le-ltb, ne_eqb, eqb-true}
+use lib.Dec.{eqb, ltb}
+use lib.ListN.{length, get_or, take}
 use Rattle.fields.proofs.Tests.{and_yes, never}
 use Rattle.numbers.specs.Bits.{bit, without}
 use Rattle.numbers.specs.Lowest.{Lowest}
 use Rattle.numbers.proofs.Bits.{lowest-bit, tz-least, no-bit, no_bits, without-bit}
 use Rattle.schema.specs.Schema.{Node, schema_of, node_at}
 use Rattle.schema.specs.Layout.{rank_count}
-use Rattle.schema.specs.Table.{NodeIn, SuccessorIs}
 use Rattle.schema.proofs.Sound.{Sound}
-use Rattle.schema.proofs.Accepted.{sound}
+use Rattle.schema.proofs.Accepted.{sound_of}
 use Rattle.policies.specs.Policies.{Policy}
-use Rattle.policies.specs.Rows.{noted, Noted}
-use Rattle.instances.specs.Instance.{elem}
+use Rattle.policies.specs.Rows.{noted, offsets_in}
+use Rattle.policies.specs.declared.Policies.{Policies}
+use Rattle.instances.specs.Instance.{elem, chooses}
+use Rattle.instances.proofs.Node.{chooses_columns}
 use Rattle.model.specs.Order.{better}
 use Rattle.model.specs.Reconciling.{best}
 use Rattle.model.proofs.Lists.{at-elem, Place, elem_at}
@@ -34,67 +34,71 @@ use Rattle.order.specs.Order.{in_set, first_column, Picked}
 use Rattle.order.proofs.Best.{in-strict, count-length, count_of}
 use Rattle.ranks.specs.Ranks.{better_column, RanksGathered}
 use Rattle.ranks.proofs.Ranks.{better-gathered}
-use Rattle.planning.specs.Sweep.{Columns, SuccessorsIn, Choice, Chosen}
+use Rattle.planning.specs.Sweep.{SuccessorsIn, Choice, Chosen}
 use Rattle.planning.proofs.Unnamed.{unnamed-better}
 
 -- ---- by the gathered ranks
 
-module _ (schema : List ℕ) (A : Sound (schema_of schema)) (qs : List Policy) (n columns rows eligible : ℕ) (t set : List ℕ) (c : Columns schema n columns)
-    (R : RanksGathered (better_column qs n) (rank_count (node_at (schema_of schema) n)) t rows) (S : SuccessorsIn (schema_of schema) n columns eligible set) (C : Choice (schema_of schema) n eligible) where
+module _ (schema : List ℕ) (qs : List Policy) (n : ℕ) (low : n < length (schema_of schema)) (w : chooses (node_at (schema_of schema) n) ≡ true) (eligible rows : ℕ) (t : List (List ℕ)) (set xs : List ℕ)
+    (e : xs ≡ (node_at (schema_of schema) n).successors)
+    (R : RanksGathered (better_column qs n) (rank_count (node_at (schema_of schema) n)) t rows) (S : SuccessorsIn xs eligible set) (C : Choice (schema_of schema) n eligible) where
+  A : Sound (schema_of schema)
+  A = sound_of schema (omega arith)
+
+  columns : length xs ≡ rank_count (node_at (schema_of schema) n)
+  columns = ap length e ∙ sym (chooses_columns (node_at (schema_of schema) n) w)
+
   at : ℕ → ℕ
   at k = get_or (node_at (schema_of schema) n).successors k 0
 
-  in_list : (k : ℕ) → k < columns → k < length (node_at (schema_of schema) n).successors
-  in_list k h = omega (arith, c.is)
+  in_list : (k : ℕ) → k < length xs → k < length (node_at (schema_of schema) n).successors
+  in_list k h = omega (arith, ap length e)
 
-  same-better : (x y : ℕ) → x < columns → y < columns → better_in t rows x y ≡ better (schema_of schema) qs n (at x) (at y)
+  marked : (k : ℕ) → k < length xs → in_set set k ≡ bit eligible (at k)
   unfolding at
-  same-better x y h k = better-gathered (schema_of schema) A qs n c.below t R x y (omega (arith, c.ranked)) (omega (arith, c.ranked))
+  marked k h = S.each k h ∙ ap (λ (l : List ℕ). bit eligible (get_or l k 0)) e
 
-  counted : (k : ℕ) → k < columns → elem k (count_up columns 0) ≡ true
-  counted k h = subst (λ (y : ℕ). elem y (count_up columns 0) ≡ true) (count_of columns k h) (at-elem (count_up columns 0) k (omega (arith, count-length columns 0)))
+  same-better : (x y : ℕ) → x < length xs → y < length xs → better_in (take rows t) x y ≡ better (schema_of schema) qs n (at x) (at y)
+  unfolding at
+  same-better x y h k = better-gathered (schema_of schema) A qs n low t R x y (omega (arith, columns)) (omega (arith, columns))
+
+  counted : (k : ℕ) → k < length xs → elem k (count_up (length xs) 0) ≡ true
+  counted k h = subst (λ (y : ℕ). elem y (count_up (length xs) 0) ≡ true) (count_of (length xs) k h) (at-elem (count_up (length xs) 0) k (omega (arith, count-length (length xs) 0)))
 
   record Picks (r : ℕ) : Type 0 where
-    pub inside : r < length (node_at (schema_of schema) n).successors
+    pub inside : r < length xs
     pub is : best (bit eligible) (better (schema_of schema) qs n) (node_at (schema_of schema) n).successors ≡ some (at r)
 
-  picks : (o : Option ℕ) → IsBest (in_set set) (better_in t rows) (count_up columns 0) o → Picks (Option.get_or o 8)
+  picks : (o : Option ℕ) → IsBest (in_set set) (better_in (take rows t)) (count_up (length xs) 0) o → Picks (Option.get_or o 8)
   unfolding at
   picks none (no-best f) =
       absurd (let z : eligible ≡ 0 = no_bits eligible (λ x b. found (elem_at (node_at (schema_of schema) n).successors x (C.successors x b)) b) in let y = C.some_in in omega arith)
     where
       found : {x : ℕ} → Place (node_at (schema_of schema) n).successors x → bit eligible x ≡ true → ⊥
       found u b =
-          let l : u.place < columns = omega (arith, c.is, u.inside) in
-          f u.place (counted u.place l) (S.each u.place l ∙ ap (bit eligible) u.is ∙ b)
-  picks (some z) (a-best w) =
-      let q = elem_at (count_up columns 0) z w.among in
-      let l : z < columns = let p = q.inside in let y = count_of columns q.place (omega (arith, count-length columns 0)) in let x = q.is in omega (arith, count-length columns 0) in
+          let l : u.place < length xs = omega (arith, ap length e, u.inside) in
+          f u.place (counted u.place l) (marked u.place l ∙ ap (bit eligible) u.is ∙ b)
+  picks (some z) (a-best v) =
+      let q = elem_at (count_up (length xs) 0) z v.among in
+      let l : z < length xs = let p = q.inside in let y = count_of (length xs) q.place (omega (arith, count-length (length xs) 0)) in let x = q.is in omega (arith, count-length (length xs) 0) in
       record {
-        inside = in_list z l;
+        inside = l;
         is = best-at (bit eligible) (better (schema_of schema) qs n) (better-strict (schema_of schema) qs n) (node_at (schema_of schema) n).successors (better-total (schema_of schema) qs n) z (in_list z l)
-            (sym (S.each z l) ∙ w.passes)
-            (λ k h m b. let y : k < columns = omega (arith, c.is) in w.unbeaten k (counted k y) (S.each k y ∙ m) (same-better k z y l ∙ b));
+            (sym (marked z l) ∙ v.passes)
+            (λ k h m b. let y : k < length xs = omega (arith, ap length e) in v.unbeaten k (counted k y) (marked k y ∙ m) (same-better k z y l ∙ b));
       }
 
-  picked-by : {r : ℕ} → Picked t rows set columns r → Picks r
-  unfolding first_column
-  picked-by P = subst Picks (sym P.is) (picks (best (in_set set) (better_in t rows) (count_up columns 0)) (best-is (in_set set) (better_in t rows) (in-strict t rows) (count_up columns 0)))
+  module _ {r : ℕ} (P : Picked (take rows t) set (length xs) r) where
+    by-table : Picks r
+    unfolding first_column
+    by-table = subst Picks (sym P.is) (picks (best (in_set set) (better_in (take rows t)) (count_up (length xs) 0)) (best-is (in_set set) (better_in (take rows t)) (in-strict (take rows t)) (count_up (length xs) 0)))
 
-module _ (schema table : List ℕ) (qs : List Policy) (n eligible : ℕ) (set t : List ℕ) {rows columns r : ℕ} (P : Picked t rows set columns r) (R : RanksGathered (better_column qs n) (rank_count (node_at (schema_of schema) n)) t rows)
-    (S : SuccessorsIn (schema_of schema) n columns eligible set) (C : Choice (schema_of schema) n eligible) (h : NodeIn schema table n) (c : Columns schema n columns) (y : Bytes schema) where
-  A : Sound (schema_of schema)
-  A = sound schema y (let z = h.below in omega arith)
+    pub picked_inside : r < length xs
+    picked_inside = by-table.inside
 
-  by-table : Picks schema A qs n columns rows eligible t set c R S C r
-  by-table = picked-by schema A qs n columns rows eligible t set c R S C P
-
-  pub picked-inside : r < length (node_at (schema_of schema) n).successors
-  picked-inside = by-table.inside
-
-  pub chosen-by-ranks : {x : ℕ} → SuccessorIs (schema_of schema) n r x → Chosen (schema_of schema) qs n eligible x
-  unfolding at
-  chosen-by-ranks u = record { is = by-table.is ∙ ap {B = Option ℕ} some (sym u.is) }
+    pub chosen_by_ranks : {x : ℕ} → x ≡ get_or xs r 0 → Chosen (schema_of schema) qs n eligible x
+    unfolding at
+    chosen_by_ranks u = record { is = by-table.is ∙ ap {B = Option ℕ} some (sym (u ∙ ap (λ (l : List ℕ). get_or l r 0) e)) }
 
 -- ---- without the ranks
 
@@ -110,9 +114,12 @@ module _ (g : List Node) (qs : List Policy) (n eligible : ℕ) {x : ℕ} (C : Ch
       }
 
   -- no other is in the set
-  pub chosen-single : {m : ℕ} → m ≡ without eligible x → m ≡ 0 → Chosen g qs n eligible x
-  chosen-single e z = chosen-first (λ y b. go y b (ℕ_discrete y x))
+  pub chosen_single : {m : ℕ} → m ≡ without eligible x → eqb m 0 ≡ true → Chosen g qs n eligible x
+  chosen_single {m} e q = chosen-first (λ y b. go y b (ℕ_discrete y x))
     where
+      z : m ≡ 0
+      z = eqb-true m 0 q
+
       go : (y : ℕ) → bit eligible y ≡ true → Dec (y ≡ x) → better g qs n y x ≡ true → ⊥
       go y b (yes q) r = (better-strict g qs n).irreflexive x (subst (λ (i : ℕ). better g qs n i x ≡ true) q r)
       go y b (no q) r =
@@ -122,6 +129,6 @@ module _ (g : List Node) (qs : List Policy) (n eligible : ℕ) {x : ℕ} (C : Ch
   chosen_none : better g qs n ≡ ltb → Chosen g qs n eligible x
   chosen_none e = chosen-first (λ y b r. never (sym (le-ltb y x (omega (arith, l.is, tz-least 64 eligible y b))) ∙ ap (λ (f : ℕ → ℕ → Bool). f y x) (sym e) ∙ r))
 
-pub chosen-unnamed : (schema table p rows : List ℕ) (n eligible : ℕ) {x : ℕ} → NodeIn schema table n → Noted schema p rows → Choice (schema_of schema) n eligible → Lowest 64 eligible x → get_or rows (17 * n) 0 ≡ 0
-    → Chosen (schema_of schema) (noted (schema_of schema) p rows) n eligible x
-chosen-unnamed schema table p rows n eligible h w C l e = chosen_none (schema_of schema) (noted (schema_of schema) p rows) n eligible C l (unnamed-better schema p rows n w h.below e)
+pub chosen_unnamed : (x : Policies) (n : ℕ) (h : n < length (schema_of x.schema.bytes.now)) (os : List ℕ) → os ≡ offsets_in x.rows.now n → {b : Bool} → b ≡ eqb (length os) 0 → b ≡ true → (eligible : ℕ) {y : ℕ}
+    → Choice (schema_of x.schema.bytes.now) n eligible → Lowest 64 eligible y → Chosen (schema_of x.schema.bytes.now) (noted (schema_of x.schema.bytes.now) x.bytes.now x.rows.now) n eligible y
+chosen_unnamed x n h os i a b eligible C l = chosen_none (schema_of x.schema.bytes.now) (noted (schema_of x.schema.bytes.now) x.bytes.now x.rows.now) n eligible C l (unnamed-better x n h os i (eqb-true (length os) 0 (sym a ∙ b)))

@@ -15,15 +15,14 @@ use lib.Count.{count_trailing_zeros}
 use lib.Dec.{eqb}
 use lib.ListN.{length, get_or, replicate, set, length-set, length-replicate, get_or-replicate}
 use lib.Seq.{get_or-set_same, get_or-set_other}
-use Rattle.fields.proofs.Bytes.{Bytes}
 use Rattle.fields.proofs.Tests.{and-true, or-true, not_yes, never}
 use Rattle.numbers.specs.Bits.{bit, with, turned}
 use Rattle.numbers.specs.Lowest.{Lowest}
 use Rattle.numbers.proofs.Bits.{pow-bit, no-bit, with-bit, turned_bit, or-bit, lowest-bit, tz-least, tz-above, bits-same}
 use Rattle.schema.specs.Schema.{Node, schema_of, node_at}
-use Rattle.schema.specs.Table.{Tabled, SetsIn, NodeIn}
+use Rattle.schema.specs.Table.{SetsIn}
 use Rattle.schema.proofs.Sound.{Sound}
-use Rattle.schema.proofs.Accepted.{sound}
+use Rattle.schema.proofs.Accepted.{sound_of}
 use Rattle.policies.specs.Policies.{Policy}
 use Rattle.instances.specs.Instance.{Entry, elem, chooses, reaches}
 use Rattle.instances.specs.File.{reached}
@@ -110,9 +109,9 @@ pub record Choosing (g : List Node) (qs : List Policy) (choices : List ℕ) (lef
   pub blank : (j : ℕ) → at ≤ j → j < 64 → get_or choices j 0 ≡ 255
   pub long : length choices ≡ 64
 
-pub choosing-init : (schema : List ℕ) (qs : List Policy) (eligible choices : List ℕ) → Eligible schema qs eligible → choices ≡ replicate 64 255 → Choosing (schema_of schema) qs choices 1 0
+pub choosing_init : (schema : List ℕ) (qs : List Policy) (eligible choices : List ℕ) → Eligible schema qs eligible → choices ≡ replicate 64 255 → Choosing (schema_of schema) qs choices 1 0
 unfolding reached planned
-choosing-init schema qs eligible choices o e =
+choosing_init schema qs eligible choices o e =
     let z : length (schema_of schema) - 0 ≡ length (schema_of schema) = omega arith in
     record {
       at = 0;
@@ -133,7 +132,7 @@ choosing-init schema qs eligible choices o e =
     root : (j : ℕ) → bit 1 j ≡ true → j ≡ 0
     root j t = eqb-true j 0 (sym (pow-bit 0 j) ∙ t)
 
-module _ (schema : List ℕ) (qs : List Policy) (eligible choices : List ℕ) (left nodes : ℕ) (y : Bytes schema) (o : Eligible schema qs eligible) (w : Choosing (schema_of schema) qs choices left nodes) where
+module _ (schema : List ℕ) (qs : List Policy) (eligible choices : List ℕ) (left nodes : ℕ) (o : Eligible schema qs eligible) (w : Choosing (schema_of schema) qs choices left nodes) where
   abbrev g : List Node
   g = schema_of schema
 
@@ -141,11 +140,11 @@ module _ (schema : List ℕ) (qs : List Policy) (eligible choices : List ℕ) (l
   rules = rules_of g qs
 
   A : Sound g
-  A = sound schema y o.some-nodes
+  A = sound_of schema o.some-nodes
 
-  pub choosing-exit : left ≤ 0 → Reached g qs choices nodes
+  pub choosing_exit : left ≤ 0 → Reached g qs choices nodes
   unfolding nodes_of
-  choosing-exit h =
+  choosing_exit h =
       let z : left ≡ 0 = omega arith in
       let none : rest_of g (plan g rules) w.at w.es ≡ [] =
       rest-to g (plan g rules) w.es w.at (length g) w.upto (omega arith) (λ j a b. sym (w.reaching j a b) ∙ ap (λ (m : ℕ). bit m j) z ∙ no-bit j) ∙ rest-exit g (plan g rules) w.es in
@@ -182,11 +181,11 @@ module _ (schema : List ℕ) (qs : List Policy) (eligible choices : List ℕ) (l
     lowest-is : (j : ℕ) → bit left j ≡ true → n ≤ j
     lowest-is j t = omega (arith, l.is, tz-least 64 left j t)
 
-    pub choosing-node : (table : List ℕ) → Tabled schema table → NodeIn schema table n
-    choosing-node table t = record { table = t; below = here }
+    pub choosing_node : n < length g
+    choosing_node = here
 
-    pub choosing-slot : n < length eligible
-    choosing-slot = omega (arith, here, o.room.long)
+    pub choosing_slot : n < length eligible
+    choosing_slot = omega (arith, here, o.room.long)
 
     step-parts : is_some (rules.least n) && cond (chooses (node_at g n)) (is_some (taken g rules (can g rules) n)) (every (can g rules) (node_at g n).successors) ≡ true
     unfolding can_step
@@ -325,8 +324,8 @@ module _ (schema : List ℕ) (qs : List Policy) (eligible choices : List ℕ) (l
       is-best : IsBest (bit (get_or eligible n 0)) (rules.better n) (node_at g n).successors (best (bit (get_or eligible n 0)) (rules.better n) (node_at g n).successors)
       is-best = best-is (bit (get_or eligible n 0)) (rules.better n) (better-strict g qs n) (node_at g n).successors
 
-      pub choosing-choice : Choice g n (get_or eligible n 0)
-      choosing-choice = record { some_in = some_in (best (bit (get_or eligible n 0)) (rules.better n) (node_at g n).successors) is-best some-taken; successors = λ x m. (eligible-successor x m).0 }
+      pub choosing_choice : Choice g n (get_or eligible n 0)
+      choosing_choice = record { some_in = some_in (best (bit (get_or eligible n 0)) (rules.better n) (node_at g n).successors) is-best some-taken; successors = λ x m. (eligible-successor x m).0 }
         where
           some-taken : is_some (best (bit (get_or eligible n 0)) (rules.better n) (node_at g n).successors) ≡ true
           some-taken =
@@ -354,11 +353,11 @@ module _ (schema : List ℕ) (qs : List Policy) (eligible choices : List ℕ) (l
         range : (n < x) × (x < length g)
         range = successor-in g A n x top.0
 
-        pub choice-below : x < 64
-        choice-below = let z = range.1 in omega (arith, A.few)
+        pub choice_below : x < 64
+        choice_below = let z = range.1 in omega (arith, A.few)
 
-        pub choice-small : x < 256
-        choice-small = omega (arith, choice-below)
+        pub choice_small : x < 256
+        choice_small = omega (arith, choice_below)
 
         plan-choice : (plan g rules n).choice ≡ x
         unfolding plan
@@ -385,17 +384,17 @@ module _ (schema : List ℕ) (qs : List Policy) (eligible choices : List ℕ) (l
             only = rw chooses-here (ap (λ (c : ℕ). c ∷ []) plan-choice)
 
         module _ {left₁ left' nodes' : ℕ} (a : left₁ ≡ turned left n) (d : left' ≡ with left₁ x) (s : nodes' ≡ with nodes n) where
-          pub choosing-step : Choosing g qs (set choices n x) left' nodes'
-          choosing-step = stepped (step-choose a d s)
+          pub choosing_step : Choosing g qs (set choices n x) left' nodes'
+          choosing_step = stepped (step-choose a d s)
 
-          pub choosing-less : 64 - count_trailing_zeros 64 left' < 64 - count_trailing_zeros 64 left
-          choosing-less = stepped-less (step-choose a d s)
+          pub choosing_less : 64 - count_trailing_zeros 64 left' < 64 - count_trailing_zeros 64 left
+          choosing_less = stepped-less (step-choose a d s)
 
     -- ---- a node that takes all
 
     module _ (sets : List ℕ) (d : SetsIn schema sets) where
-      pub choosing-set : n < length sets
-      choosing-set = omega (arith, here, d.long)
+      pub choosing_set : n < length sets
+      choosing_set = omega (arith, here, d.long)
 
       module _ {b : Bool} (e : b ≡ chooses (node_at g n)) (t : b ≡ false) {left₁ nodes' : ℕ} (a : left₁ ≡ turned left n) (s : nodes' ≡ with nodes n) where
         all_here : chooses (node_at g n) ≡ false
@@ -428,8 +427,8 @@ module _ (schema : List ℕ) (qs : List Policy) (eligible choices : List ℕ) (l
             all : cond (chooses (node_at g n)) ((plan g rules n).choice ∷ []) (node_at g n).successors ≡ (node_at g n).successors
             all = rw all_here
 
-        pub choosing-all : Choosing g qs choices (bit_or left₁ (get_or sets n 0)) nodes'
-        choosing-all = stepped step-all
+        pub choosing_all : Choosing g qs choices (bit_or left₁ (get_or sets n 0)) nodes'
+        choosing_all = stepped step-all
 
-        pub choosing-all-less : 64 - count_trailing_zeros 64 (bit_or left₁ (get_or sets n 0)) < 64 - count_trailing_zeros 64 left
-        choosing-all-less = stepped-less step-all
+        pub choosing_all_less : 64 - count_trailing_zeros 64 (bit_or left₁ (get_or sets n 0)) < 64 - count_trailing_zeros 64 left
+        choosing_all_less = stepped-less step-all

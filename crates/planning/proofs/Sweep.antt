@@ -13,15 +13,14 @@ use borrow.Author.Tests.{eq-eqb, ne_eqb}
 use lib.Dec.{eqb}
 use lib.IntN.{ℤ}
 use lib.ListN.{length, get_or}
-use Rattle.fields.proofs.Bytes.{Bytes}
 use Rattle.fields.proofs.Tests.{or_right}
 use Rattle.numbers.specs.Bits.{bit, with}
 use Rattle.numbers.proofs.Bits.{no-bit, with-bit}
 use Rattle.schema.specs.Schema.{Node, schema_of, node_at}
-use Rattle.schema.specs.Table.{Tabled, NodeIn, AtMost}
+use Rattle.schema.specs.Table.{AtMost}
 use Rattle.schema.specs.declared.Variable.{Variable}
 use Rattle.schema.proofs.Sound.{Sound}
-use Rattle.schema.proofs.Accepted.{sound}
+use Rattle.schema.proofs.Accepted.{sound_of}
 use Rattle.policies.specs.Policies.{Policy}
 use Rattle.instances.specs.Instance.{elem, chooses}
 use Rattle.instances.specs.File.{value_of}
@@ -42,25 +41,22 @@ values_same (v ∷ vs) t u k f =
 
 -- ---- the node whose turn it is
 
-pub sweep-node : (schema table : List ℕ) (n : ℕ) → Tabled schema table → 0 < n → n ≤ length (schema_of schema) → NodeIn schema table (n - 1)
-sweep-node schema table n t h l = record { table = t; below = omega arith }
+pub sweep_below : (schema : List ℕ) (n : ℕ) {c : ℕ} → AtMost 64 (length (schema_of schema)) c → 0 < n → n ≤ c → n - 1 < length (schema_of schema)
+sweep_below schema n m h l = omega (arith, m.is)
 
-pub sweep-small : (schema : List ℕ) (n : ℕ) → Bytes schema → 0 < n → n ≤ length (schema_of schema) → n - 1 < 64
-sweep-small schema n y h l = let z = (sound schema y (omega arith)).few in omega arith
+pub sweep_small : (schema : List ℕ) (n : ℕ) {c : ℕ} → AtMost 64 (length (schema_of schema)) c → 0 < n → n ≤ c → n - 1 < 64
+sweep_small schema n m h l = omega (arith, m.most)
 
 -- ---- before the first
 
-pub sweep-count : (schema : List ℕ) {n : ℕ} → AtMost 64 (length (schema_of schema)) n → n ≤ length (schema_of schema)
-sweep-count schema m = omega (arith, m.is)
-
-pub sweep-init : (schema : List ℕ) (qs : List Policy) (eligible bits : List ℕ) {n : ℕ} → AtMost 64 (length (schema_of schema)) n → EligibleRoom schema eligible → BitsRoom schema bits → Swept schema qs n 0 eligible bits
-sweep-init schema qs eligible bits m l r =
+pub sweep_init : (schema : List ℕ) (qs : List Policy) (eligible bits : List ℕ) {n : ℕ} → AtMost 64 (length (schema_of schema)) n → EligibleRoom schema eligible → BitsRoom schema bits → Swept schema qs n 0 eligible bits
+sweep_init schema qs eligible bits m l r =
     record {
       known = λ i a b. absurd (omega (arith, m.is));
       eligible-is = λ i a b. absurd (omega (arith, m.is));
       values = λ i a b. absurd (omega (arith, m.is));
       blank = λ i a. no-bit i;
-      eligible_room = l;
+      eligible-room = l;
       bits-room = r;
     }
 
@@ -75,7 +71,7 @@ eligible-alike g A r h k n f x = go (elem x (node_at g n).successors) refl
 
 -- ---- one turn
 
-module _ (schema : List ℕ) (qs : List Policy) (n feasible : ℕ) (eligible₀ bits₀ : List ℕ) (w : Swept schema qs n feasible eligible₀ bits₀) (Y : Bytes schema) (h : 0 < n) (l : n ≤ length (schema_of schema))
+module _ (schema : List ℕ) (qs : List Policy) (n feasible : ℕ) (eligible₀ bits₀ : List ℕ) (w : Swept schema qs n feasible eligible₀ bits₀) {c : ℕ} (M : AtMost 64 (length (schema_of schema)) c) (h : 0 < n) (L : n ≤ c)
     (eligible bits : List ℕ) {r : Bool} (q : NodePlanned (schema_of schema) qs (n - 1) feasible eligible₀ eligible bits₀ bits r) where
   abbrev g : List Node
   g = schema_of schema
@@ -83,11 +79,14 @@ module _ (schema : List ℕ) (qs : List Policy) (n feasible : ℕ) (eligible₀ 
   abbrev rules : Rules
   rules = rules_of g qs
 
+  l : n ≤ length (schema_of schema)
+  l = omega (arith, M.is)
+
   A : Sound g
-  A = sound schema Y (omega arith)
+  A = sound_of schema (omega (arith, l))
 
   here : n - 1 < length g
-  here = omega arith
+  here = omega (arith, l)
 
   above : (m : ℕ) → n - 1 < m → m < length g → bit feasible m ≡ can g rules m
   above m i j = w.known m (omega arith) j
@@ -103,7 +102,7 @@ module _ (schema : List ℕ) (qs : List Policy) (n feasible : ℕ) (eligible₀ 
         eligible-is = λ m i j t. eligible-is m i j t (dec_lt (n - 1) m);
         values = λ m i j t. values m i j t (dec_lt (n - 1) m);
         blank = λ m i. e m (λ y. omega arith) ∙ w.blank m (omega arith);
-        eligible_room = record { long = omega (arith, q.eligible-long, w.eligible_room.long) };
+        eligible-room = record { long = omega (arith, q.eligible-long, w.eligible-room.long) };
         bits-room = record { long = omega (arith, q.long, w.bits-room.long) };
       }
     where
@@ -127,11 +126,11 @@ module _ (schema : List ℕ) (qs : List Policy) (n feasible : ℕ) (eligible₀ 
           subst (λ (m : ℕ). values_from (node_at g m).variables bits (4 * m) ≡ Option.get_or (rules.least m) []) (sym y)
           (q.values (feasible-here ∙ subst (λ (m : ℕ). can g rules m ≡ true) y t))
 
-  pub sweep-infeasible : r ≡ false → Swept schema qs (n - 1) feasible eligible bits
-  sweep-infeasible e = turn feasible (λ m y. refl) (w.blank (n - 1) (omega arith) ∙ sym e)
+  pub sweep_infeasible : r ≡ false → Swept schema qs (n - 1) feasible eligible bits
+  sweep_infeasible e = turn feasible (λ m y. refl) (w.blank (n - 1) (omega arith) ∙ sym e)
 
-  pub sweep-feasible : {feasible' : ℕ} → r ≡ true → feasible' ≡ with feasible (n - 1) → Swept schema qs (n - 1) feasible' eligible bits
-  sweep-feasible {feasible'} e v = turn feasible' (λ m y. in-set m ∙ ap (λ (b : Bool). bit feasible m || b) (ne_eqb m (n - 1) y) ∙ no_more (bit feasible m)) (in-set (n - 1) ∙ or_right (bit feasible (n - 1)) (eqb (n - 1) (n - 1)) (eq-eqb (n - 1) (n - 1) refl) ∙ sym e)
+  pub sweep_feasible : {feasible' : ℕ} → r ≡ true → feasible' ≡ with feasible (n - 1) → Swept schema qs (n - 1) feasible' eligible bits
+  sweep_feasible {feasible'} e v = turn feasible' (λ m y. in-set m ∙ ap (λ (b : Bool). bit feasible m || b) (ne_eqb m (n - 1) y) ∙ no_more (bit feasible m)) (in-set (n - 1) ∙ or_right (bit feasible (n - 1)) (eqb (n - 1) (n - 1)) (eq-eqb (n - 1) (n - 1) refl) ∙ sym e)
     where
       in-set : (m : ℕ) → bit feasible' m ≡ bit feasible m || eqb m (n - 1)
       in-set m = ap (λ (x : ℕ). bit x m) v ∙ with-bit feasible (n - 1) m (omega (arith, A.few))
@@ -140,5 +139,5 @@ module _ (schema : List ℕ) (qs : List Policy) (n feasible : ℕ) (eligible₀ 
       no_more true = refl
       no_more false = refl
 
-pub sweep-exit : (schema : List ℕ) (qs : List Policy) (n feasible : ℕ) (eligible bits : List ℕ) → Swept schema qs n feasible eligible bits → n ≤ 0 → Swept schema qs 0 feasible eligible bits
-sweep-exit schema qs n feasible eligible bits w h = let z : n ≡ 0 = omega arith in subst (λ (m : ℕ). Swept schema qs m feasible eligible bits) z w
+pub sweep_exit : (schema : List ℕ) (qs : List Policy) (n feasible : ℕ) (eligible bits : List ℕ) → Swept schema qs n feasible eligible bits → n ≤ 0 → Swept schema qs 0 feasible eligible bits
+sweep_exit schema qs n feasible eligible bits w h = let z : n ≡ 0 = omega arith in subst (λ (m : ℕ). Swept schema qs m feasible eligible bits) z w

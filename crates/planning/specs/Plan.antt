@@ -1,18 +1,20 @@
 -- What is planned for some policies, as the answer and the lent arrays tell it.
-use Rattle.std.specs.Prelude.{ℕ, zero, suc, ◌+◌, ◌≤◌, ◌≡◌, List, cond, length}
+use Rattle.std.specs.Prelude.{ℕ, zero, suc, ◌+◌, ◌≤◌, ◌≡◌, List, cond, length, Option as Answered, Some, None}
 use Rattle.std.proofs.Math.Option.{Option, none, some}
 use Rattle.numbers.specs.Bits.{bit}
 use Rattle.schema.specs.Schema.{Node, schema_of, node_at}
 use Rattle.instances.specs.Instance.{Entry}
 use Rattle.instances.specs.File.{values_width}
 use Rattle.instances.specs.Plan.{planned, nodes_of, plan_of}
-use Rattle.planning.specs.declared.Plan.{Plan}
-use Rattle.planning.specs.declared.Plan.TheVariants.{Infeasible, Feasible}
+
+-- nodes as bits, or that there is no instance, as the code answers it
+abbrev pub Plan : Type 0
+Plan = Answered ℕ
 
 -- an instance's nodes, or that there is none
 unfoldable pub plan_for : Option (List Entry) → Plan
-plan_for none = Infeasible
-plan_for (some i) = Feasible (nodes_of i)
+plan_for none = None
+plan_for (some i) = Some (nodes_of i)
 
 -- r tells so of the instance o, and the arrays hold it; what they have of nodes without an entry, or where there is no instance, is free
 pub record Plans (g : List Node) (o : Option (List Entry)) (choices bits : List ℕ) (r : Plan) : Type 0 where

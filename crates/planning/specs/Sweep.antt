@@ -5,7 +5,6 @@ use Rattle.std.proofs.Math.Option
 use Rattle.std.proofs.Math.Option.{some}
 use Rattle.numbers.specs.Bits.{bit}
 use Rattle.schema.specs.Schema.{Node, schema_of, node_at}
-use Rattle.schema.specs.Layout.{rank_count}
 use Rattle.policies.specs.Policies.{Policy}
 use Rattle.instances.specs.Instance.{elem, chooses}
 use Rattle.instances.specs.Plan.{planned, nodes_of, values_from, values_slot, value_slot, BitsRoom}
@@ -15,16 +14,9 @@ use Rattle.model.specs.Reconciling.{Rules, best, can_step, can, plan, rules_of}
 use Rattle.order.specs.Order.{in_set}
 use Rattle.planning.specs.Plan.{EligibleRoom}
 
--- node n chooses among so many successors
-pub record Columns (schema : List ℕ) (n columns : ℕ) : Type 0 where
-  pub below : n < length (schema_of schema)
-  pub is : columns ≡ length (node_at (schema_of schema) n).successors
-  pub ranked : columns ≡ rank_count (node_at (schema_of schema) n)
-  pub most : columns ≤ 8
-
--- the first places tell which of node n's successors are in a set of nodes
-pub record SuccessorsIn (g : List Node) (n columns nodes : ℕ) (t : List ℕ) : Type 0 where
-  pub each : (k : ℕ) → k < columns → in_set t k ≡ bit nodes (get_or (node_at g n).successors k 0)
+-- the first places tell which of a node's successors are in a set of nodes
+pub record SuccessorsIn (successors : List ℕ) (nodes : ℕ) (t : List ℕ) : Type 0 where
+  pub each : (k : ℕ) → k < length successors → in_set t k ≡ bit nodes (get_or successors k 0)
 
 -- a set of successors of node n, not empty
 pub record Choice (g : List Node) (n set : ℕ) : Type 0 where
@@ -67,7 +59,7 @@ pub record Swept (schema : List ℕ) (qs : List Policy) (n feasible : ℕ) (elig
   pub values : (m : ℕ) → n ≤ m → m < length (schema_of schema) → can (schema_of schema) (rules_of (schema_of schema) qs) m ≡ true
       → values_from (node_at (schema_of schema) m).variables bits (values_slot m) ≡ Option.get_or ((rules_of (schema_of schema) qs).least m) []
   pub blank : (m : ℕ) → m < n → bit feasible m ≡ false
-  pub eligible_room : EligibleRoom schema eligible
+  pub eligible-room : EligibleRoom schema eligible
   pub bits-room : BitsRoom schema bits
 
 -- the root is feasible, and the table has the eligible successors of each feasible node that chooses

@@ -2,136 +2,97 @@
 // values, then which of them are reached and what these choose, and how long the instance's file is.
 #![tactic(auto)]
 
-ghost use Rattle.std.specs.Prelude.{◌≡◌, true, length, replicate};
+ghost use Rattle.std.specs.Prelude.{◌≡◌, true, ◌<◌, ◌≤◌, length, replicate};
+ghost use Rattle.std.specs.List.{All};
 ghost use Rattle.schema.specs.Schema.{most_nodes, schema_of, node_at};
-ghost use Rattle.schema.specs.Table.{NodeIn, Accepted, Tabled, SetsIn, AtMost};
-ghost use Rattle.policies.specs.Rows.{noted, Noted};
+ghost use Rattle.schema.specs.Table.{SetsIn, AtMost};
+ghost use Rattle.policies.specs.Rows.{noted};
 ghost use Rattle.instances.specs.Instance.{chooses};
 ghost use Rattle.instances.specs.File.{most_bytes};
 ghost use Rattle.instances.specs.Plan.{BitsRoom};
 ghost use Rattle.model.specs.Reconciling.{reconciled};
 ghost use Rattle.planning.specs.Plan.{EligibleRoom, Plans, entries_length, file_length};
-ghost use Rattle.planning.specs.Sweep.{Columns, SuccessorsIn, Choice, Chosen, NoneBanned, Allowed, NodePlanned, Swept, Eligible, Reached};
+ghost use Rattle.planning.specs.Sweep.{SuccessorsIn, Choice, Chosen, NoneBanned, Allowed, NodePlanned, Swept, Eligible, Reached};
 
 use instances::{ENTRY_WIDTH, HEAD_WIDTH};
-use policies::{RANKS, ROW_SLOTS};
+use nodes::Schema;
+use policies::{MOST_POLICIES, Policies};
 use schema::{MOST_NODES, MOST_SUCCESSORS};
 
-// What the noted policies come to: no instance meets them all, or one with an entry for each of these nodes, as bits.
-#[derive(Clone, Copy)]
-pub enum Plan {
-    Infeasible,
-    Feasible { nodes: u64 },
-}
-
-// Which of node n's successors are in a set of nodes, by column.
-fn fill_set(
-    schema: &[u8],
-    table: &[u16],
-    n: usize,
-    columns: usize,
-    nodes: u64,
-    set: &mut [u8; MOST_SUCCESSORS],
-)
-    requires node_in { NodeIn schema.now table.now n }
-    requires columns { Columns schema.now n columns }
+// Which of these successors of a node are in a set of nodes, by column.
+#[tactic(auto, using(crate::proofs::Tables::marking_init))]
+fn fill_set(successors: &[u8], nodes: u64, set: &mut [u8; MOST_SUCCESSORS])
+    requires few { length successors.now ≤ 8 }
+    requires below { All (λ x. x < 64) successors.now }
     requires set_len { length set.old ≡ 8 }
-    ensures { SuccessorsIn (schema_of schema.now) n columns nodes set.new }
+    ensures { SuccessorsIn successors.now nodes set.new }
 {
-    let mut k: usize = 0;
-    while k < columns {
-        let x = nodes::successor_of(schema, table, n, k);
-        if numbers::has(nodes, x) {
-            set[k] = 1;
-            k += 1;
-        } else {
-            set[k] = 0;
-            k += 1;
-        }
+    for (k, x) in successors.iter().enumerate() {
+        set[k] = u8::from(numbers::has(nodes, usize::from(*x)));
     }
 }
 
 // The successor of node n that comes first in a set of them, by the ranks of the noted policies.
-fn choose_by_ranks(
-    schema: &[u8],
-    table: &[u16],
-    p: &[u8],
-    rows: &[u16],
-    n: usize,
-    eligible: u64,
-) -> usize
-    requires node_in { NodeIn schema.now table.now n }
-    requires noted { Noted schema.now p.now rows.now }
-    requires n_value { chooses (node_at (schema_of schema.now) n) ≡ true }
-    requires choice { Choice (schema_of schema.now) n eligible }
-    ensures { Chosen (schema_of schema.now) (noted (schema_of schema.now) p.now rows.now) n eligible result }
+fn choose_by_ranks(policies: &Policies, n: usize, eligible: u64) -> usize
+    requires node_in { n < length (schema_of policies.now.schema.bytes.now) }
+    requires n_value { chooses (node_at (schema_of policies.now.schema.bytes.now) n) ≡ true }
+    requires choice { Choice (schema_of policies.now.schema.bytes.now) n eligible }
+    ensures { Chosen (schema_of policies.now.schema.bytes.now) (noted (schema_of policies.now.schema.bytes.now) policies.now.bytes.now policies.now.rows.now) n eligible result }
 {
-    let columns = nodes::successor_count(schema, table, n);
-    let mut ranks = [0u8; RANKS];
-    let count = ranks::gather(schema, table, p, rows, n, &mut ranks);
+    let successors = policies.schema.successors(n);
+    let mut ranks = [[0u8; MOST_SUCCESSORS]; MOST_POLICIES];
+    let count = ranks::gather(policies, n, &mut ranks);
     let mut set = [0u8; MOST_SUCCESSORS];
-    fill_set(schema, table, n, columns, eligible, &mut set);
-    let k = order::pick(&ranks, count, columns, &set);
-    nodes::successor_of(schema, table, n, k)
+    fill_set(successors, eligible, &mut set);
+    let k = order::pick(&ranks[..count], successors.len(), &set);
+    usize::from(successors[k])
 }
 
 // The successor of node n that comes first in a set of them: the ranks are looked at only where a noted policy names the
 // node and the set leaves a choice.
-fn choose(schema: &[u8], table: &[u16], p: &[u8], rows: &[u16], n: usize, eligible: u64) -> usize
-    requires node_in { NodeIn schema.now table.now n }
-    requires noted { Noted schema.now p.now rows.now }
-    requires n_value { chooses (node_at (schema_of schema.now) n) ≡ true }
-    requires choice { Choice (schema_of schema.now) n eligible }
-    ensures { Chosen (schema_of schema.now) (noted (schema_of schema.now) p.now rows.now) n eligible result }
+fn choose(policies: &Policies, n: usize, eligible: u64) -> usize
+    requires node_in { n < length (schema_of policies.now.schema.bytes.now) }
+    requires n_value { chooses (node_at (schema_of policies.now.schema.bytes.now) n) ≡ true }
+    requires choice { Choice (schema_of policies.now.schema.bytes.now) n eligible }
+    ensures { Chosen (schema_of policies.now.schema.bytes.now) (noted (schema_of policies.now.schema.bytes.now) policies.now.bytes.now policies.now.rows.now) n eligible result }
 {
     let first = numbers::lowest(eligible);
-    if rows[ROW_SLOTS * n] == 0 {
+    if policies.offsets(n).is_empty() {
         return first;
     }
-    if numbers::without(eligible, first) == 0 {
+    let alone = numbers::without(eligible, first) == 0;
+    if alone {
         return first;
     }
-    choose_by_ranks(schema, table, p, rows, n, eligible)
+    choose_by_ranks(policies, n, eligible)
 }
 
 // Whether no column is banned, by the greatest of the eight.
 fn none_banned(bans: &[u8; MOST_SUCCESSORS]) -> bool
     ensures { NoneBanned bans.now result }
 {
-    let a = ranks::greater_rank(bans[0], bans[1]);
-    let b = ranks::greater_rank(bans[2], bans[3]);
-    let c = ranks::greater_rank(bans[4], bans[5]);
-    let d = ranks::greater_rank(bans[6], bans[7]);
-    let e = ranks::greater_rank(a, b);
-    let f = ranks::greater_rank(c, d);
-    ranks::greater_rank(e, f) < 255
+    bans.iter().fold(0u8, |x, ban| x.max(*ban)) < 255
 }
 
 // A set of nodes without those successors of node n, which chooses, that a noted policy forbids.
-fn keep_allowed(schema: &[u8], table: &[u16], p: &[u8], rows: &[u16], n: usize, nodes: u64) -> u64
-    requires node_in { NodeIn schema.now table.now n }
-    requires noted { Noted schema.now p.now rows.now }
-    requires n_value { chooses (node_at (schema_of schema.now) n) ≡ true }
-    ensures { Allowed (schema_of schema.now) (noted (schema_of schema.now) p.now rows.now) n nodes result }
+#[tactic(auto, using(crate::proofs::Bans::dropping_init, crate::proofs::Node::successors_few))]
+fn keep_allowed(policies: &Policies, n: usize, nodes: u64) -> u64
+    requires node_in { n < length (schema_of policies.now.schema.bytes.now) }
+    requires n_value { chooses (node_at (schema_of policies.now.schema.bytes.now) n) ≡ true }
+    ensures { Allowed (schema_of policies.now.schema.bytes.now) (noted (schema_of policies.now.schema.bytes.now) policies.now.bytes.now policies.now.rows.now) n nodes result }
 {
-    if rows[ROW_SLOTS * n] == 0 {
+    if policies.offsets(n).is_empty() {
         return nodes;
     }
     let mut bans = [0u8; MOST_SUCCESSORS];
-    ranks::bans(schema, table, p, rows, n, &mut bans);
+    ranks::bans(policies, n, &mut bans);
     let mut kept = nodes;
     if none_banned(&bans) {
         return kept;
     }
-    let columns = nodes::successor_count(schema, table, n);
-    let mut k: usize = 0;
-    while k < columns {
+    for (k, x) in policies.schema.successors(n).iter().enumerate() {
         if bans[k] == 255 {
-            let x = nodes::successor_of(schema, table, n, k);
-            kept = numbers::without(kept, x);
-            k += 1;
-        } else {
-            k += 1;
+            kept = numbers::without(kept, usize::from(*x));
         }
     }
     kept
@@ -139,28 +100,25 @@ fn keep_allowed(schema: &[u8], table: &[u16], p: &[u8], rows: &[u16], n: usize, 
 
 // Whether node n is feasible, where it is known which nodes above it are; its values, and its eligible successors if it
 // chooses, go into the tables.
+#[tactic(auto, using(crate::proofs::Node::node_chooses))]
 fn plan_node(
-    schema: &[u8],
-    table: &[u16],
+    policies: &Policies,
     sets: &[u64],
-    p: &[u8],
-    rows: &[u16],
     n: usize,
     feasible: u64,
     eligible: &mut [u64],
     bits: &mut [u32],
 ) -> bool
-    requires node_in { NodeIn schema.now table.now n }
-    requires sets_in { SetsIn schema.now sets.now }
-    requires noted { Noted schema.now p.now rows.now }
-    requires eligible_room { EligibleRoom schema.now eligible.old }
-    requires bits_room { BitsRoom schema.now bits.old }
-    ensures { NodePlanned (schema_of schema.now) (noted (schema_of schema.now) p.now rows.now) n feasible eligible.old eligible.new bits.old bits.new result }
+    requires node_in { n < length (schema_of policies.now.schema.bytes.now) }
+    requires sets_in { SetsIn policies.now.schema.bytes.now sets.now }
+    requires eligible_room { EligibleRoom policies.now.schema.bytes.now eligible.old }
+    requires bits_room { BitsRoom policies.now.schema.bytes.now bits.old }
+    ensures { NodePlanned (schema_of policies.now.schema.bytes.now) (noted (schema_of policies.now.schema.bytes.now) policies.now.bytes.now policies.now.rows.now) n feasible eligible.old eligible.new bits.old bits.new result }
 {
-    if conditions::least_values(schema, table, p, rows, n, bits) {
+    if conditions::least_values(policies, n, bits) {
         let set = sets[n];
-        if instances::chooses(schema, table, n) {
-            let kept = keep_allowed(schema, table, p, rows, n, set & feasible);
+        if instances::chooses(&policies.schema, n) {
+            let kept = keep_allowed(policies, n, set & feasible);
             eligible[n] = kept;
             return kept != 0;
         }
@@ -170,28 +128,16 @@ fn plan_node(
 }
 
 // The sweep from the highest node to 0: which nodes are feasible, the values of each and its eligible successors.
-fn sweep_nodes(
-    schema: &[u8],
-    table: &[u16],
-    sets: &[u64],
-    p: &[u8],
-    rows: &[u16],
-    eligible: &mut [u64],
-    bits: &mut [u32],
-) -> u64
-    requires accepted { Accepted schema.now }
-    requires tabled { Tabled schema.now table.now }
-    requires sets_in { SetsIn schema.now sets.now }
-    requires noted { Noted schema.now p.now rows.now }
-    requires eligible_room { EligibleRoom schema.now eligible.old }
-    requires bits_room { BitsRoom schema.now bits.old }
-    ensures { Swept schema.now (noted (schema_of schema.now) p.now rows.now) 0 result eligible.new bits.new }
+#[tactic(auto, using(crate::proofs::Sweep::sweep_below, crate::proofs::Sweep::sweep_small))]
+fn sweep_nodes(policies: &Policies, sets: &[u64], eligible: &mut [u64], bits: &mut [u32]) -> u64
+    requires sets_in { SetsIn policies.now.schema.bytes.now sets.now }
+    requires eligible_room { EligibleRoom policies.now.schema.bytes.now eligible.old }
+    requires bits_room { BitsRoom policies.now.schema.bytes.now bits.old }
+    ensures { Swept policies.now.schema.bytes.now (noted (schema_of policies.now.schema.bytes.now) policies.now.bytes.now policies.now.rows.now) 0 result eligible.new bits.new }
 {
     let mut feasible: u64 = 0;
-    let mut n = nodes::count_of(schema);
-    while 0 < n {
-        n -= 1;
-        if plan_node(schema, table, sets, p, rows, n, feasible, eligible, bits) {
+    for n in (0..policies.schema.node_count()).rev() {
+        if plan_node(policies, sets, n, feasible, eligible, bits) {
             feasible = numbers::insert(feasible, n);
         }
     }
@@ -200,20 +146,15 @@ fn sweep_nodes(
 
 // The nodes that are reached from node 0, the lowest first, and what each chooses.
 fn choose_nodes(
-    schema: &[u8],
-    table: &[u16],
+    policies: &Policies,
     sets: &[u64],
-    p: &[u8],
-    rows: &[u16],
     eligible: &[u64],
     choices: &mut [u8; MOST_NODES],
 ) -> u64
-    requires tabled { Tabled schema.now table.now }
-    requires sets_in { SetsIn schema.now sets.now }
-    requires noted { Noted schema.now p.now rows.now }
-    requires eligible { Eligible schema.now (noted (schema_of schema.now) p.now rows.now) eligible.now }
+    requires sets_in { SetsIn policies.now.schema.bytes.now sets.now }
+    requires eligible { Eligible policies.now.schema.bytes.now (noted (schema_of policies.now.schema.bytes.now) policies.now.bytes.now policies.now.rows.now) eligible.now }
     requires choices_value { choices.old ≡ replicate most_nodes 255 }
-    ensures { Reached (schema_of schema.now) (noted (schema_of schema.now) p.now rows.now) choices.new result }
+    ensures { Reached (schema_of policies.now.schema.bytes.now) (noted (schema_of policies.now.schema.bytes.now) policies.now.bytes.now policies.now.rows.now) choices.new result }
 {
     let mut reached: u64 = 0;
     let mut left: u64 = 1;
@@ -221,8 +162,8 @@ fn choose_nodes(
         let n = numbers::lowest(left);
         reached = numbers::insert(reached, n);
         left = numbers::flip(left, n);
-        if instances::chooses(schema, table, n) {
-            let x = choose(schema, table, p, rows, n, eligible[n]);
+        if instances::chooses(&policies.schema, n) {
+            let x = choose(policies, n, eligible[n]);
             choices[n] = x as u8;
             left = numbers::insert(left, x);
         } else {
@@ -232,61 +173,45 @@ fn choose_nodes(
     reached
 }
 
-// What the noted policies come to: the instance that the model gives for them, held by the choices and the bits of the
-// values, which are lent; so is the table of eligible successors.
+// What the noted policies come to: the instance that the model gives for them, by the nodes that have an entry, as bits, or
+// that there is none. The choices and the bits of the values, which are lent, hold it; so is the table of eligible successors.
 pub fn plan_for(
-    schema: &[u8],
-    table: &[u16],
+    policies: &Policies,
     sets: &[u64],
-    p: &[u8],
-    rows: &[u16],
     eligible: &mut [u64],
     choices: &mut [u8; MOST_NODES],
     bits: &mut [u32],
-) -> Plan
-    requires accepted { Accepted schema.now }
-    requires tabled { Tabled schema.now table.now }
-    requires sets_in { SetsIn schema.now sets.now }
-    requires noted { Noted schema.now p.now rows.now }
-    requires eligible_room { EligibleRoom schema.now eligible.old }
+) -> Option<u64>
+    requires sets_in { SetsIn policies.now.schema.bytes.now sets.now }
+    requires eligible_room { EligibleRoom policies.now.schema.bytes.now eligible.old }
     requires choices_value { choices.old ≡ replicate most_nodes 255 }
-    requires bits_room { BitsRoom schema.now bits.old }
-    ensures { Plans (schema_of schema.now) (reconciled (schema_of schema.now) (noted (schema_of schema.now) p.now rows.now)) choices.new bits.new result }
+    requires bits_room { BitsRoom policies.now.schema.bytes.now bits.old }
+    ensures { Plans (schema_of policies.now.schema.bytes.now) (reconciled (schema_of policies.now.schema.bytes.now) (noted (schema_of policies.now.schema.bytes.now) policies.now.bytes.now policies.now.rows.now)) choices.new bits.new result }
 {
-    let feasible = sweep_nodes(schema, table, sets, p, rows, eligible, bits);
+    let feasible = sweep_nodes(policies, sets, eligible, bits);
     if numbers::has(feasible, 0) {
-        return Plan::Feasible {
-            nodes: choose_nodes(schema, table, sets, p, rows, eligible, choices),
-        };
+        return Some(choose_nodes(policies, sets, eligible, choices));
     }
-    Plan::Infeasible
+    None
 }
 
 // The bytes of the entries of these nodes.
-fn entries_length(schema: &[u8], table: &[u16], nodes: u64) -> usize
-    requires accepted { Accepted schema.now }
-    requires tabled { Tabled schema.now table.now }
-    ensures { AtMost 1280 (entries_length (schema_of schema.now) nodes (length (schema_of schema.now))) result }
+#[tactic(auto, using(crate::proofs::Measuring::summing_init, crate::proofs::Measuring::summing_small, crate::proofs::Measuring::summing_fits, crate::proofs::Measuring::summing_skip))]
+fn entries_length(schema: &Schema, nodes: u64) -> usize
+    ensures { AtMost 1280 (entries_length (schema_of schema.now.bytes.now) nodes (length (schema_of schema.now.bytes.now))) result }
 {
-    let count = nodes::count_of(schema);
-    let mut n: usize = 0;
     let mut sum: usize = 0;
-    while n < count {
+    for n in 0..schema.node_count() {
         if numbers::has(nodes, n) {
-            sum = sum + ENTRY_WIDTH + lookup::values_width(schema, table, n);
-            n += 1;
-        } else {
-            n += 1;
+            sum += ENTRY_WIDTH + lookup::values_width(schema, n);
         }
     }
     sum
 }
 
 // How long a file with an entry for each of these nodes is.
-pub fn file_length(schema: &[u8], table: &[u16], nodes: u64) -> usize
-    requires accepted { Accepted schema.now }
-    requires tabled { Tabled schema.now table.now }
-    ensures { AtMost most_bytes (file_length (schema_of schema.now) nodes) result }
+pub fn file_length(schema: &Schema, nodes: u64) -> usize
+    ensures { AtMost most_bytes (file_length (schema_of schema.now.bytes.now) nodes) result }
 {
-    HEAD_WIDTH + entries_length(schema, table, nodes)
+    HEAD_WIDTH + entries_length(schema, nodes)
 }

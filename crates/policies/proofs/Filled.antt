@@ -146,3 +146,6 @@ module _ (g : List Node) (p : List ℕ) (ps : List Policy) (keep : Policy → Bo
           ∙ get_or-drop (offset_slot n 0) rows r 0
           ∙ ap (λ (i : ℕ). get_or rows i 0) (let z : offset_slot n 0 + r ≡ offset_slot n r = omega arith in z)
           ∙ w.each r (omega (arith, w.count)))
+
+      pub filled-most : length (offsets_in rows n) ≤ 16
+      filled-most = omega (arith, ap (λ (l : List ℕ). length l) filled-offsets, rowed.few)

@@ -7,20 +7,19 @@ use Prim.Native.Nat.{ℕ, zero, suc, ◌+◌, ◌*◌, ◌≤◌, ◌<◌}
 use native.Mathlib.Omega.{arith}
 use native.Mathlib.Decide.{ℕ_discrete, dec_lt}
 use borrow.Author.Tests.{eq-eqb, ne_eqb, eqb-true}
-use lib.ListN.{length, get_or, take, drop, length-drop}
-use lib.Seq.{get_or-take, length-take-le}
+use lib.ListN.{length, get_or, take, drop}
 use lib.Dec.{eqb}
 use Rattle.schema.specs.Schema.{Node, schema_of, node_at}
 use Rattle.policies.specs.Policies.{Rule, Policy, policies_of, has_rule, rule_for, of_rules}
 use Rattle.policies.specs.Widths.{rule_width, rules_width, policy_width}
 use Rattle.policies.specs.Pass.{in_force, forced}
 use Rattle.fields.specs.Shorts.{short}
-use Rattle.policies.specs.Rows.{row_slot, offset_slot, rows_of, rule_at, rules_at, offsets_in, noted_from, noted, rules_for, RuleAt, Noted}
+use Rattle.policies.specs.Rows.{row_slot, rows_of, rule_at, rules_at, offsets_in, noted_from, noted, rules_for, RuleAt, Noted}
 use Rattle.policies.proofs.Stands.{none, more, RulesAt as Stand, PoliciesAt, rule-of-back}
 use Rattle.policies.proofs.Sound.{stood}
 use Rattle.policies.proofs.Widths.{policy-most, short-same}
-use Rattle.policies.proofs.Stretch.{Reads, reads-there}
-use Rattle.policies.proofs.Filled.{rules_offsets, policy_offsets, policies_offsets, filled-few, filled-offsets}
+use Rattle.policies.proofs.Stretch.{Reads, reads-there, rule-got}
+use Rattle.policies.proofs.Filled.{rules_offsets, policy_offsets, policies_offsets, filled-few, filled-offsets, filled-most}
 
 -- ---- the selected policies
 
@@ -142,21 +141,13 @@ module _ (s p t : List ℕ) (w : Noted s p t) where
   abbrev nodes : List Node
   nodes = schema_of s
 
-  -- a PN is read at each offset of a row
-  pub noted-each : (n : ℕ) → n < length nodes → (r : ℕ) → r < length (offsets_in t n) → RuleAt nodes p n (get_or (offsets_in t n) r 0)
-  unfolding offsets_in
-  noted-each n h r l =
-      let c = get_or t (row_slot n) 0 in
-      let k = length-take-le c (drop (offset_slot n 0) t) (w.each n h).long in
-      rw (get_or-take c (drop (offset_slot n 0) t) r 0 (omega arith)) ((w.each n h).each r (omega arith))
-
   -- of its node
   others-none : (n m : ℕ) → (m ≡ n → ⊥) → (os : List ℕ) → ((r : ℕ) → r < length os → RuleAt nodes p m (get_or os r 0)) → rules_for n (rules_at nodes p m os) ≡ []
   unfolding rules_at rules_for
   others-none n m e [] f = refl
   others-none n m e (o ∷ os) f =
       let x = rule_at nodes p m o in
-      let z = (rule-of-back (drop o p) (node_at nodes m) m 0 (f 0 (omega arith)).reads).node in
+      let z = (rule-of-back (drop o p) (node_at nodes m) m 0 (rule-got nodes p m o (f 0 (omega arith))).1).node in
       rules-other n x (rules_at nodes p m os) (λ i. e (sym z ∙ i)) ∙ others-none n m e os (λ r l. f (suc r) (omega arith))
 
   from-none : (n m k : ℕ) → m + k ≤ length nodes → ((i : ℕ) → m ≤ i → i < m + k → i ≡ n → ⊥) → rules_for n (noted_from nodes p t m k) ≡ []
@@ -165,7 +156,7 @@ module _ (s p t : List ℕ) (w : Noted s p t) where
   from-none n m (suc k) l e =
       rules-append n (rules_at nodes p m (offsets_in t m)) (noted_from nodes p t (m + 1) k)
       ∙ ap₂ (λ (xs ys : List Rule). xs ++ ys)
-      (others-none n m (e m (omega arith) (omega arith)) (offsets_in t m) (noted-each m (omega arith)))
+      (others-none n m (e m (omega arith) (omega arith)) (offsets_in t m) ((w.each m (omega arith)).each))
       (from-none n (m + 1) k (omega arith) (λ i a b. e i (omega arith) (omega arith)))
 
   from_at : (n m k : ℕ) → m + k ≤ length nodes → m ≤ n → n < m + k → rules_for n (noted_from nodes p t m k) ≡ rules_for n (rules_at nodes p n (offsets_in t n))
@@ -180,7 +171,7 @@ module _ (s p t : List ℕ) (w : Noted s p t) where
           ∙ append-nil (rules_for n (rules_at nodes p m (offsets_in t m)))
           ∙ ap (λ (i : ℕ). rules_for n (rules_at nodes p i (offsets_in t i))) e
       go (no e) ih =
-          ap (λ (xs : List Rule). xs ++ rules_for n (noted_from nodes p t (m + 1) k)) (others-none n m e (offsets_in t m) (noted-each m (omega arith)))
+          ap (λ (xs : List Rule). xs ++ rules_for n (noted_from nodes p t (m + 1) k)) (others-none n m e (offsets_in t m) ((w.each m (omega arith)).each))
           ∙ ih (omega arith) (omega arith)
 
   pub noted-at : (n : ℕ) → n < length nodes → rules_for n (noted nodes p t) ≡ rules_for n (rules_at nodes p n (offsets_in t n))
@@ -210,20 +201,15 @@ module _ (s p rows : List ℕ) (keep : Policy → Bool) where
         (policies-read s p keep n 0 a.stand (omega (arith, a.sound.few)))
 
     pub rows-noted : Noted s p rows
-    unfolding offsets_in
     rows-noted =
+        let a = stood (schema_of s) p in
         record {
           long = l;
+          few = λ n h. filled-few (schema_of s) p ps keep rows a.stand a.sound.few e l n h;
           each = λ n h.
-              let a = stood (schema_of s) p in
-              let c = get_or rows (row_slot n) 0 in
-              let few = filled-few (schema_of s) p ps keep rows a.stand a.sound.few e l n h in
-              let long : c ≤ length (drop (offset_slot n 0) rows) = omega (arith, length-drop (offset_slot n 0) rows) in
-              let k = length-take-le c (drop (offset_slot n 0) rows) long in
               record {
-                few = few;
-                long = long;
-                each = λ r b. rw (get_or-take c (drop (offset_slot n 0) rows) r 0 b) at (all-each (schema_of s) p n (all_read n h) r (omega arith));
+                few = filled-most (schema_of s) p ps keep rows a.stand a.sound.few e l n h;
+                each = all-each (schema_of s) p n (all_read n h);
               };
         }
 

@@ -1,45 +1,35 @@
--- What the row of a node tells: a PN is read at each of its offsets, and these are what the noted policies have of the node.
+-- What the row of a node tells: its offsets stand after their count, and what is read at them is what the noted policies have of the node.
 -- Rests on the law of the rows, in Noted, and on what is read at offsets, in Rules.
-use mathlib.Core.Path.{◌≡◌, ap, sym, subst, ◌∙◌}
+use mathlib.Core.Path.{◌≡◌, refl, sym, subst, ◌∙◌}
 use mathlib.Core.List.{List, map}
-use Prim.Native.Nat.{ℕ, ◌+◌, ◌-◌, ◌*◌, ◌<◌}
+use Prim.Native.Nat.{ℕ, ◌+◌, ◌-◌, ◌*◌, ◌≤◌, ◌<◌}
+use native.Mathlib.Omega.{arith}
 use native.Mathlib.Nat.{add-zero}
 use lib.ListN.{length, get_or, take, drop}
-use Rattle.schema.specs.Schema.{Node, schema_of}
-use Rattle.policies.specs.Rows.{row_slot, rule_at, rules_at, offsets_in, noted, rules_for, RuleAt, RulesAt, Noted}
-use Rattle.policies.proofs.Part.{rest}
-use Rattle.policies.proofs.Noted.{noted-each, noted-at}
+use Rattle.schema.specs.Schema.{schema_of}
+use Rattle.policies.specs.Rows.{rule_at, offsets_in, noted, rules_for, RulesAt, Noted}
+use Rattle.policies.specs.declared.Policies.{Policies}
+use Rattle.policies.proofs.Noted.{noted-at}
 use Rattle.policies.proofs.Rules.{rules-read}
 
--- how many offsets the row of node n has; these and what follows them, as a callee is lent them
-abbrev pub offset_count : List ℕ → ℕ → ℕ
-offset_count rows n = get_or rows (row_slot n) 0
+-- what the noted policies have of node n
+pub row_said : (s p rows : List ℕ) (n : ℕ) → Noted s p rows → n < length (schema_of s)
+    → rules_for n (noted (schema_of s) p rows) ≡ map (rule_at (schema_of s) p n) (offsets_in rows n)
+row_said s p rows n w h = noted-at s p rows w n h ∙ rules-read (schema_of s) p n (offsets_in rows n) (w.each n h).each
 
-abbrev pub lent_from : List ℕ → ℕ → List ℕ
-lent_from rows n = take (length rows - (row_slot n + 1)) (drop (row_slot n + 1) rows)
+module _ (x : Policies) (n : ℕ) (h : n < length (schema_of x.schema.bytes.now)) where
+  pub row_inside : 17 * n < length x.rows.now
+  row_inside = let z = x.noted.long in omega arith
 
-module _ (s p rows : List ℕ) (n : ℕ) (w : Noted s p rows) (h : n < length (schema_of s)) where
-  abbrev g : List Node
-  g = schema_of s
+  module _ {k : ℕ} (e : k ≡ get_or x.rows.now (17 * n) 0) where
+    pub offsets_inside : 17 * n + 1 + k ≤ length x.rows.now
+    offsets_inside = omega (arith, e, x.noted.long, x.noted.few n h)
 
-  abbrev os : List ℕ
-  os = take (offset_count rows n) (lent_from rows n)
+    pub offsets_are : take (17 * n + 1 + k - (17 * n + 1)) (drop (17 * n + 1) x.rows.now) ≡ offsets_in x.rows.now n
+    unfolding offsets_in
+    offsets_are =
+        let z : 17 * n + 1 + k - (17 * n + 1) ≡ k = omega arith in
+        rw (z, e, add-zero (17 * n + 1)) refl
 
-  lent_is : drop (17 * n + 1 + 0) rows ≡ lent_from rows n
-  lent_is = ap (λ (i : ℕ). drop i rows) (add-zero (17 * n + 1)) ∙ sym (rest rows (17 * n + 1))
-
-  row-offsets : offsets_in rows n ≡ os
-  unfolding offsets_in
-  row-offsets = ap (take (offset_count rows n)) lent_is
-
-  pub row-rules : RulesAt g p n (offset_count rows n) (lent_from rows n)
-  row-rules = subst (RulesAt g p n (offset_count rows n)) lent_is (w.each n h)
-
-  pub row-each : (r : ℕ) → r < length os → RuleAt g p n (get_or os r 0)
-  row-each = subst (λ (os : List ℕ). (r : ℕ) → r < length os → RuleAt g p n (get_or os r 0)) row-offsets (noted-each s p rows w n h)
-
-  pub row-said : rules_for n (noted g p rows) ≡ rules_for n (rules_at g p n os)
-  row-said = noted-at s p rows w n h ∙ ap (λ (os : List ℕ). rules_for n (rules_at g p n os)) row-offsets
-
-  pub row_is : rules_for n (noted g p rows) ≡ map (rule_at g p n) os
-  row_is = row-said ∙ rules-read g p n os row-each
+    pub offsets_read : RulesAt (schema_of x.schema.bytes.now) x.bytes.now n (take (17 * n + 1 + k - (17 * n + 1)) (drop (17 * n + 1) x.rows.now))
+    offsets_read = subst (RulesAt (schema_of x.schema.bytes.now) x.bytes.now n) (sym offsets_are) (x.noted.each n h)

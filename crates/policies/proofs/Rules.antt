@@ -14,12 +14,13 @@ use Rattle.policies.specs.Policies.{Rule, rule_for}
 use Rattle.policies.specs.Rows.{rule_at, rules_at, rules_for, RuleAt, RulesAt, BytesAt}
 use Rattle.policies.proofs.Stands.{Ruled, rule-of-back}
 use Rattle.policies.proofs.Noted.{rules-here}
+use Rattle.policies.proofs.Stretch.{rule-got}
 
 -- ---- what is read at one offset
 
 module _ (g : List Node) (p : List ℕ) (n o : ℕ) (w : RuleAt g p n o) where
-  pub rule-read : Ruled (drop o p) (node_at g n) n 0 (rule_at g p n o) w.end
-  rule-read = rule-of-back (drop o p) (node_at g n) n 0 w.reads
+  pub rule-read : Ruled (drop o p) (node_at g n) n 0 (rule_at g p n o) (rule-got g p n o w).0
+  rule-read = rule-of-back (drop o p) (node_at g n) n 0 (rule-got g p n o w).1
 
   pub rule-room : (k : ℕ) → k ≤ length (drop o p) → o + k ≤ length p
   rule-room k h = omega (arith, length-drop o p, w.inside)
@@ -56,10 +57,10 @@ rules-read g p n (o ∷ os) f =
     rules-here n (rule_at g p n o) (rules_at g p n os) (rule-read g p n o (f 0 (omega arith))).node
     ∙ ap (λ (l : List Rule). rule_at g p n o ∷ l) (rules-read g p n os (λ r h. f (suc r) (omega arith)))
 
-module _ (g : List Node) (p : List ℕ) (n count : ℕ) (offsets : List ℕ) (w : RulesAt g p n count offsets) where
-  pub rules-bytes : (width : ℕ) → ((r : ℕ) → r < count → get_or offsets r 0 + width ≤ length p) → BytesAt p count offsets width
-  rules-bytes width f = record { few = w.few; long = w.long; each = f }
+module _ (g : List Node) (p : List ℕ) (n : ℕ) (offsets : List ℕ) (w : RulesAt g p n offsets) where
+  pub rules_bytes : (width : ℕ) → ((r : ℕ) → r < length offsets → get_or offsets r 0 + width ≤ length p) → BytesAt p offsets width
+  rules_bytes width f = record { few = w.few; each = f }
 
   -- the ranks
-  pub ranks-bytes : {columns : ℕ} → columns ≤ rank_count (node_at g n) → BytesAt p count offsets columns
-  ranks-bytes {columns} e = rules-bytes columns (λ r h. let z = ranks-inside g p n (get_or offsets r 0) (w.each r h) in omega arith)
+  pub ranks_bytes : {columns : ℕ} → columns ≤ rank_count (node_at g n) → BytesAt p offsets columns
+  ranks_bytes {columns} e = rules_bytes columns (λ r h. let z = ranks-inside g p n (get_or offsets r 0) (w.each r h) in omega arith)

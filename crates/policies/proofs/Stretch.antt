@@ -1,23 +1,25 @@
 -- The PN of an accepted file, each read on its own stretch: from where its ranks begin.
 -- Rests on Stands: what the bytes of an accepted file spell, and so what a reading of them gives.
 use mathlib.Core.Path.{◌≡◌, refl, ap, sym, subst, ◌∙◌}
+use mathlib.Core.Bool.{true}
 use mathlib.Core.List.{List, [], ◌∷◌}
 use Prim.Native.Nat.{ℕ, suc, ◌+◌}
 use native.Mathlib.Omega.{arith}
 use native.Mathlib.Nat.{add-zero}
 use lib.ListN.{length, get_or, drop, length-drop}
 use lib.Seq.{get_or-drop, drop-drop}
-use Rattle.fields.specs.Reading.{got, part, be, field, many}
+use Rattle.fields.specs.Reading.{Got, got, bad, part, be, field, many}
 use Rattle.fields.proofs.Reading.{whole_got}
 use Rattle.fields.proofs.Back.{be1}
 use Rattle.fields.proofs.Bytes.{be-same}
+use Rattle.fields.proofs.Tests.{never}
 use Rattle.schema.specs.Schema.{Node, node_at}
 use Rattle.schema.specs.declared.Variable.{Variable}
 use Rattle.schema.specs.declared.Variable.TheVariants.{Number, Listed}
 use Rattle.schema.specs.Layout.{rank_count}
 use Rattle.policies.specs.Policies.{Condition, Rule, ranks, condition, conditions, rule_of}
 use Rattle.policies.specs.Widths.{condition_width}
-use Rattle.policies.specs.Rows.{rule_in, rule_at, RuleAt}
+use Rattle.policies.specs.Rows.{rule_in, rule_at, was_read, RuleAt}
 use Rattle.policies.proofs.Stands.{ConditionAt, ConditionsAt, none, more, RanksAt, RuleAt as Stands}
 
 -- ---- a PN that stands somewhere is read there
@@ -85,6 +87,14 @@ module _ (h : ℕ) (s : List ℕ) where
 
 -- ---- a PN by its offset
 
+pub rule-got : (g : List Node) (p : List ℕ) (n o : ℕ) → RuleAt g p n o → (q : ℕ) × (rule_of (drop o p) (node_at g n) n 0 ≡ got (rule_at g p n o) q)
+unfolding rule_at
+rule-got g p n o w = go (rule_of (drop o p) (node_at g n) n 0) w.reads
+  where
+    go : (r : Got Rule) → was_read r ≡ true → (q : ℕ) × (r ≡ got (rule_in r) q)
+    go (got x q) e = (q, refl)
+    go (bad m o) e = never e
+
 -- the PN x of node n is read at o
 pub record Reads (g : List Node) (p : List ℕ) (n o : ℕ) (x : Rule) : Type 0 where
   pub rule : RuleAt g p n o
@@ -101,4 +111,4 @@ reads-there g p n h q x w a =
     let r = rule-there (drop (q + 3) s) (node_at g n) n 0 x a (w.count ∙ ap (λ (m : ℕ). rank_count (node_at g m)) a) (ranks-stretch (q + 3) s 0 x.ranks rs)
     (conditions-stretch (q + 3) s cs (0 + length x.ranks) (omega arith)) in
     let z : rule_of (drop (h + q + 3) p) (node_at g n) n 0 ≡ got x r.0 = subst (λ (l : List ℕ). rule_of l (node_at g n) n 0 ≡ got x r.0) e r.1 in
-    record { rule = record { inside = omega (arith, w.inside, length-drop h p); end = r.0; reads = rw z }; is = ap rule_in z; node = a }
+    record { rule = record { inside = omega (arith, w.inside, length-drop h p); reads = ap was_read z }; is = ap rule_in z; node = a }

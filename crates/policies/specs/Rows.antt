@@ -76,25 +76,28 @@ unfoldable pub rules_for : ℕ → List Policy → List Rule
 rules_for n [] = []
 rules_for n (x ∷ xs) = cond (has_rule n x.rules) (rule_for n x.rules ∷ rules_for n xs) (rules_for n xs)
 
+-- whether it was read
+abbrev pub was_read : Got Rule → Bool
+was_read (got x q) = true
+was_read (bad m o) = false
+
 -- a PN of node n is read at o
 pub record RuleAt (g : List Node) (p : List ℕ) (n o : ℕ) : Type 0 where
   pub inside : o ≤ length p
-  pub end : ℕ
-  pub reads : rule_of (drop o p) (node_at g n) n 0 ≡ got (rule_at g p n o) end
+  pub reads : was_read (rule_of (drop o p) (node_at g n) n 0) ≡ true
 
--- one is read at each of the first so many offsets
-pub record RulesAt (g : List Node) (p : List ℕ) (n count : ℕ) (offsets : List ℕ) : Type 0 where
-  pub few : count ≤ most_policies
-  pub long : count ≤ length offsets
-  pub each : (r : ℕ) → r < count → RuleAt g p n (get_or offsets r 0)
+-- one is read at each of the offsets
+pub record RulesAt (g : List Node) (p : List ℕ) (n : ℕ) (offsets : List ℕ) : Type 0 where
+  pub few : length offsets ≤ most_policies
+  pub each : (r : ℕ) → r < length offsets → RuleAt g p n (get_or offsets r 0)
 
--- so many bytes of the file p stand from each of the first so many offsets on
-pub record BytesAt (p : List ℕ) (count : ℕ) (offsets : List ℕ) (width : ℕ) : Type 0 where
-  pub few : count ≤ most_policies
-  pub long : count ≤ length offsets
-  pub each : (r : ℕ) → r < count → get_or offsets r 0 + width ≤ length p
+-- so many bytes of the file p stand from each of the offsets on
+pub record BytesAt (p offsets : List ℕ) (width : ℕ) : Type 0 where
+  pub few : length offsets ≤ most_policies
+  pub each : (r : ℕ) → r < length offsets → get_or offsets r 0 + width ≤ length p
 
 -- the rows t note PN of the file p under the schema file s
 pub record Noted (s p t : List ℕ) : Type 0 where
   pub long : row_slot (length (schema_of s)) ≤ length t
-  pub each : (n : ℕ) → n < length (schema_of s) → RulesAt (schema_of s) p n (get_or t (row_slot n) 0) (drop (offset_slot n 0) t)
+  pub few : (n : ℕ) → n < length (schema_of s) → get_or t (row_slot n) 0 ≤ most_policies
+  pub each : (n : ℕ) → n < length (schema_of s) → RulesAt (schema_of s) p n (offsets_in t n)

@@ -23,7 +23,7 @@ use Rattle.schema.specs.Layout.{rank_count, span, spans, offset_of, rule_length,
 use Rattle.schema.proofs.Accepted.{file-of, view}
 use Rattle.schema.proofs.Access.{laid}
 use Rattle.policies.specs.Policies.{Condition, range, mask, PN, ranks, condition, conditions, rule_of}
-use Rattle.schema.specs.Table.{SchemaIn}
+use Rattle.schema.specs.Table.{Tabled}
 use Rattle.policies.proofs.Nodes.{nodes-few}
 use Rattle.policy_reader.specs.Body.{excess_of, masks_fit, Looking, is_whole, is_good, is_next, Shape, Shapes}
 
@@ -201,10 +201,10 @@ module _ (schema t : List ℕ) (n : ℕ) (w : Laid (schema_of schema) t) (b : n 
           fit_none s (p + 3 + offset_of node k) node.variables k l (sym (w.each n b).masks ∙ eqb-true (get_or t (16 * n + 6) 0) 0 e)
       fits false e h k l = spared k l (let z = variables-few schema n b in omega arith) (fits-at t s n (p + 3) h k (let z = variables-few schema n b in omega arith))
 
-pub shapes-of : (schema t : List ℕ) {count : ℕ} → SchemaIn schema t count → Shapes t count
-shapes-of schema t c =
-    let w = laid schema t c.table in
-    record { few = omega (arith, c.counted, nodes-few schema); long = omega (arith, c.counted, w.long); each = λ n l. shape_of schema t n w (omega (arith, c.counted)) }
+pub shapes-of : (schema t : List ℕ) → Tabled schema t → Shapes t (length (schema_of schema))
+shapes-of schema t d =
+    let w = laid schema t d in
+    record { few = nodes-few schema; long = w.long; each = λ n l. shape_of schema t n w l }
 
 -- ---- the tests
 
@@ -225,33 +225,33 @@ unfolding is_whole
 whole-marked s w p h e = rw (le-leb w (length s - p) h) e
 
 module _ (t s : List ℕ) (n p : ℕ) {v : Bool} (e : v ≡ is_whole s (get_or t (16 * n + 5) 0) p) where
-  pub good-not : v ≡ false → false ≡ is_good t s n p
+  pub good_not : v ≡ false → false ≡ is_good t s n p
   unfolding is_good
-  good-not h = sym (and_no (eqb (get_or t (16 * n + 6) 0) 0 || masks_fit t s n (p + 3)) (sym e ∙ h))
+  good_not h = sym (and_no (eqb (get_or t (16 * n + 6) 0) 0 || masks_fit t s n (p + 3)) (sym e ∙ h))
 
   module _ (h : v ≡ true) where
-    pub good-bare : get_or t (16 * n + 6) 0 ≡ 0 → true ≡ is_good t s n p
+    pub good_bare : get_or t (16 * n + 6) 0 ≡ 0 → true ≡ is_good t s n p
     unfolding is_good
-    good-bare z = sym (and_yes (sym e ∙ h) (or_yes (masks_fit t s n (p + 3)) (eq-eqb (get_or t (16 * n + 6) 0) 0 z)))
+    good_bare z = sym (and_yes (sym e ∙ h) (or_yes (masks_fit t s n (p + 3)) (eq-eqb (get_or t (16 * n + 6) 0) 0 z)))
 
-    pub good-masks : (get_or t (16 * n + 6) 0 ≡ 0 → ⊥) → {u : Bool} → u ≡ masks_fit t s n (p + 3) → u ≡ is_good t s n p
+    pub good_masks : (get_or t (16 * n + 6) 0 ≡ 0 → ⊥) → {u : Bool} → u ≡ masks_fit t s n (p + 3) → u ≡ is_good t s n p
     unfolding is_good
-    good-masks z d = rw (sym e ∙ h, ne_eqb (get_or t (16 * n + 6) 0) 0 z) d
+    good_masks z d = rw (sym e ∙ h, ne_eqb (get_or t (16 * n + 6) 0) 0 z) d
 
     module _ (w : Shape t n) where
       whole-there : p + get_or t (16 * n + 5) 0 ≤ length s
       whole-there = let j = (whole-inside s (get_or t (16 * n + 5) 0) p (sym e ∙ h)).0 in omega (arith, w.least)
 
-      pub good-looking : (get_or t (16 * n + 6) 0 ≡ 0 → ⊥) → Looking t s n (p + 3)
-      good-looking z = record { long = w.long; there = λ k l. omega (arith, w.there k l z, whole-there); spare = w.spare }
+      pub good_looking : (get_or t (16 * n + 6) 0 ≡ 0 → ⊥) → Looking t s n (p + 3)
+      good_looking z = record { long = w.long; there = λ k l. omega (arith, w.there k l z, whole-there); spare = w.spare }
 
-      pub node-there : p + 2 < length s
-      node-there = omega (arith, w.least, whole-there)
+      pub node_there : p + 2 < length s
+      node_there = omega (arith, w.least, whole-there)
 
     module _ {b : ℕ} (j : b ≡ get_or s (p + 2) 0) where
-      pub next-other : (b ≡ n → ⊥) → false ≡ is_next t s n p
+      pub next_other : (b ≡ n → ⊥) → false ≡ is_next t s n p
       unfolding is_next
-      next-other x = sym (and_last (is_good t s n p) (ne_eqb (get_or s (p + 2) 0) n (λ i. x (j ∙ i))))
+      next_other x = sym (and_last (is_good t s n p) (ne_eqb (get_or s (p + 2) 0) n (λ i. x (j ∙ i))))
 
       module _ (x : b ≡ n) where
         named : eqb (get_or s (p + 2) 0) n ≡ true
@@ -259,15 +259,15 @@ module _ (t s : List ℕ) (n p : ℕ) {v : Bool} (e : v ≡ is_whole s (get_or t
 
         pub next-bare : get_or t (16 * n + 6) 0 ≡ 0 → true ≡ is_next t s n p
         unfolding is_next
-        next-bare z = sym (and_yes (sym (good-bare z)) named)
+        next-bare z = sym (and_yes (sym (good_bare z)) named)
 
         pub next-masks : (get_or t (16 * n + 6) 0 ≡ 0 → ⊥) → {u : Bool} → u ≡ masks_fit t s n (p + 3) → u ≡ is_next t s n p
         unfolding is_next
-        next-masks z d = good-masks z d ∙ sym (and-alone (is_good t s n p) named)
+        next-masks z d = good_masks z d ∙ sym (and-alone (is_good t s n p) named)
 
-  pub next-not : v ≡ false → false ≡ is_next t s n p
+  pub next_not : v ≡ false → false ≡ is_next t s n p
   unfolding is_next
-  next-not h = sym (and_no (eqb (get_or s (p + 2) 0) n) (sym (good-not h)))
+  next_not h = sym (and_no (eqb (get_or s (p + 2) 0) n) (sym (good_not h)))
 
 -- back
 pub next-back : (t s : List ℕ) (n p : ℕ) → is_next t s n p ≡ true → (is_good t s n p ≡ true) × (get_or s (p + 2) 0 ≡ n)
@@ -277,14 +277,14 @@ next-back t s n p e = let both = and-true (is_good t s n p) (eqb (get_or s (p + 
 -- ---- the masks
 
 module _ (t s : List ℕ) (n p k : ℕ) (w : Looking t s n p) (l : k < 4) where
-  pub mask-spare : get_or t (16 * n + 12 + k) 0 ≤ 32
-  mask-spare = w.spare k l
+  pub mask_spare : get_or t (16 * n + 12 + k) 0 ≤ 32
+  mask_spare = w.spare k l
 
-  pub mask-there : p + get_or t (16 * n + 8 + k) 0 + 4 ≤ length s
-  mask-there = w.there k l
+  pub mask_there : p + get_or t (16 * n + 8 + k) 0 + 4 ≤ length s
+  mask_there = w.there k l
 
   pub mask_fits : length s < 2 ^ 64 → Fits w64 (p + get_or t (16 * n + 8 + k) 0)
-  mask_fits m = record { fits = omega (arith, mask-there) }
+  mask_fits m = record { fits = omega (arith, mask_there) }
 
 pub excess-is : (t s : List ℕ) (n p k : ℕ) {u r : ℕ} → u ≡ be 4 s (p + get_or t (16 * n + 8 + k) 0) → r ≡ u * 2 ^ get_or t (16 * n + 12 + k) 0 / 2 ^ 32 → r ≡ excess_of t s n p k
 unfolding excess_of

@@ -17,7 +17,6 @@ use Rattle.schema.specs.Schema.{Node, schema_of}
 use Rattle.policies.specs.Policies.{Rule, Policy, Head as PolicyHead, rules, head, policy, onward, policies_from, policies}
 use Rattle.policies.specs.Pass.{in_force}
 use Rattle.policies.specs.Widths.{policy_width}
-use Rattle.schema.specs.Table.{SchemaIn}
 use Rattle.policies.specs.Rows.{note_policy, note_policies, rows_of, RowsRoom}
 use Rattle.policy_reader.specs.Runs.{head_read, Open, note_rules_if, note_in_force, left_of, Ready, left_over, Leaves, Turned}
 use Rattle.policy_reader.specs.Answers.{YieldsPolicies}
@@ -104,7 +103,7 @@ pub file_init : (schema s : List ℕ) (a b : ℕ) (t : List ℕ) → RowsRoom sc
 unfolding policies
 file_init schema s a b t w = record { upto = omega arith; few = λ n. (counted-init t w.blank).from n (omega arith); left = refl }
 
-module _ (schema s : List ℕ) (a b j p : ℕ) (t : List ℕ) (table : List ℕ) (count : ℕ) (w : Ready schema table count j t) where
+module _ (schema s : List ℕ) (a b j p : ℕ) (t : List ℕ) (w : Ready schema j t) where
   abbrev g : List Node
   g = schema_of schema
 
@@ -177,13 +176,13 @@ module _ (schema s : List ℕ) (a b j p : ℕ) (t : List ℕ) (table : List ℕ)
           omega (arith, length-drop p s)
 
 -- the rows have room for one more policy
-pub turn_open : (s t : List ℕ) (count j : ℕ) (rows : List ℕ) → Ready s t count j rows → (j ≡ 16 → ⊥) → Open count 0 rows
-turn_open s t count j rows w n = record { long = w.long; room = λ m l. omega (arith, w.few m, w.upto) }
+pub turn_open : (s : List ℕ) (j : ℕ) (rows : List ℕ) → Ready s j rows → (j ≡ 16 → ⊥) → Open (length (schema_of s)) 0 rows
+turn_open s j rows w n = record { long = w.long; room = λ m l. omega (arith, w.few m, w.upto) }
 
 -- what a turn asks for
-pub turn_ready : (s t : List ℕ) (count : ℕ) (rows : List ℕ) {p : List ℕ} {a b j q : ℕ} {u : List ℕ} {X : Run (List ℕ)}
-    → SchemaIn s t count → RowsRoom s rows → length u ≡ length rows → Leaves (schema_of s) p a b j q u X → Ready s t count j u
-turn_ready s t count rows c w e i = record { schema = c; upto = i.upto; long = omega (arith, c.counted, w.long); few = i.few }
+pub turn_ready : (s rows : List ℕ) {p : List ℕ} {a b j q : ℕ} {u : List ℕ} {X : Run (List ℕ)} → RowsRoom s rows → length u ≡ length rows
+    → Leaves (schema_of s) p a b j q u X → Ready s j u
+turn_ready s rows w e i = record { upto = i.upto; long = omega (arith, w.long); few = i.few }
 
 -- after a turn
 module _ (schema p : List ℕ) (a b j q : ℕ) (t : List ℕ) {X : Run (List ℕ)} (i : Leaves (schema_of schema) p a b j q t X) where

@@ -17,7 +17,7 @@ use Rattle.fields.proofs.Back.{be1}
 use Rattle.fields.proofs.Tests.{and-true}
 use Rattle.schema.specs.Schema.{Node, node_at, schema_of}
 use Rattle.schema.specs.Layout.{Laid}
-use Rattle.schema.specs.Table.{NodeIn, SchemaIn}
+use Rattle.schema.specs.Table.{Tabled}
 use Rattle.schema.proofs.Access.{laid}
 use Rattle.policies.specs.Policies.{Rule, PN, rule_of, rule, rules}
 use Rattle.policies.specs.Widths.{rule_width}
@@ -33,9 +33,6 @@ use Rattle.policy_reader.proofs.Body.{whole-inside, shape_of, good-read, next-ba
 
 -- ---- one PN
 
-pub node_in : (schema t : List ℕ) (n : ℕ) {count : ℕ} → SchemaIn schema t count → n < count → NodeIn schema t n
-node_in schema t n w h = record { table = w.table; below = omega (arith, w.counted) }
-
 module _ (schema s : List ℕ) (low p : ℕ) where
   pub rule_bad : {m o : ℕ} → bad m o ≡ rule (schema_of schema) s low p → bad m o ≡ rule_read (rule (schema_of schema) s low p)
   rule_bad e = rw (← e)
@@ -48,13 +45,13 @@ module _ (schema s : List ℕ) (low p : ℕ) where
     pub rule_low : v < low → bad 10 a ≡ rule_read (rule (schema_of schema) s low p)
     rule_low x = rw (opened, lt-leb low v x)
 
-    module _ {t : List ℕ} {count : ℕ} (w : SchemaIn schema t count) (x : low ≤ v) where
+    module _ {count : ℕ} (w : count ≡ length (schema_of schema)) (x : low ≤ v) where
       pub rule_high : count ≤ v → bad 10 a ≡ rule_read (rule (schema_of schema) s low p)
-      rule_high y = let z : length (schema_of schema) ≤ v = omega (arith, w.counted) in rw (opened, le-leb low v x, le-ltb v (length (schema_of schema)) z)
+      rule_high y = let z : length (schema_of schema) ≤ v = omega (arith, w) in rw (opened, le-leb low v x, le-ltb v (length (schema_of schema)) z)
 
       module _ (y : v < count) where
         below : rule (schema_of schema) s low p ≡ rule_of s (node_at (schema_of schema) v) v b
-        below = let z : v < length (schema_of schema) = omega (arith, w.counted) in rw (opened, le-leb low v x, lt-ltb v (length (schema_of schema)) z)
+        below = let z : v < length (schema_of schema) = omega (arith, w) in rw (opened, le-leb low v x, lt-ltb v (length (schema_of schema)) z)
 
         pub rule_refused : {m o : ℕ} → bad m o ≡ end_of (rule_of s (node_at (schema_of schema) v) v b) → bad m o ≡ rule_read (rule (schema_of schema) s low p)
         rule_refused u = rw (below, stopped (rule_of s (node_at (schema_of schema) v) v b) u)
@@ -83,20 +80,20 @@ rule-none (bad m o) e = cc
 
 -- ---- a PN that is plainly good
 
-good-whole : (t s : List ℕ) (n p : ℕ) → is_good t s n p ≡ true → is_whole s (get_or t (16 * n + 5) 0) p ≡ true
+good_whole : (t s : List ℕ) (n p : ℕ) → is_good t s n p ≡ true → is_whole s (get_or t (16 * n + 5) 0) p ≡ true
 unfolding is_good
-good-whole t s n p e = (and-true (is_whole s (get_or t (16 * n + 5) 0) p) (eqb (get_or t (16 * n + 6) 0) 0 || masks_fit t s n (p + 3)) e).0
+good_whole t s n p e = (and-true (is_whole s (get_or t (16 * n + 5) 0) p) (eqb (get_or t (16 * n + 6) 0) 0 || masks_fit t s n (p + 3)) e).0
 
-module _ (schema t s : List ℕ) (low n p : ℕ) {count : ℕ} (c : SchemaIn schema t count) (a : low ≤ n) (b : n < count) (i : n ≡ get_or s (p + 2) 0)
-    (l : p ≤ length s) (e : is_good t s n p ≡ true) where
+module _ (schema t s : List ℕ) (low n p : ℕ) {count : ℕ} (d : Tabled schema t) (c : count ≡ length (schema_of schema)) (a : low ≤ n) (b : n < count)
+    (i : n ≡ get_or s (p + 2) 0) (l : p ≤ length s) (e : is_good t s n p ≡ true) where
   w : Laid (schema_of schema) t
-  w = laid schema t c.table
+  w = laid schema t d
 
   inside : (get_or t (16 * n + 5) 0 ≤ length s - p) × (be 2 s p ≡ be 2 PN 0)
-  inside = whole-inside s (get_or t (16 * n + 5) 0) p (good-whole t s n p e)
+  inside = whole-inside s (get_or t (16 * n + 5) 0) p (good_whole t s n p e)
 
   three : 3 ≤ get_or t (16 * n + 5) 0
-  three = (shape_of schema t n w (omega (arith, c.counted))).least
+  three = (shape_of schema t n w (omega (arith, c))).least
 
   marked : got tt (p + 2) ≡ end_of (mark PN s p)
   unfolding mark field part
@@ -106,7 +103,7 @@ module _ (schema t s : List ℕ) (low n p : ℕ) {count : ℕ} (c : SchemaIn sch
   named = rw (whole_got 1 s (p + 2) (omega (arith, inside.0, three)), be1 s (p + 2), i)
 
   body : got tt (p + get_or t (16 * n + 5) 0) ≡ end_of (rule_of s (node_at (schema_of schema) n) n (p + 2 + 1))
-  body = let z : p + 2 + 1 ≡ p + 3 = omega arith in rw z (good-read schema t n w (omega (arith, c.counted)) s p e l)
+  body = let z : p + 2 + 1 ≡ p + 3 = omega arith in rw z (good-read schema t n w (omega (arith, c)) s p e l)
 
   pub good_rule : got n (p + get_or t (16 * n + 5) 0) ≡ rule_read (rule (schema_of schema) s low p)
   good_rule = rule_named schema s low p marked named c a b body
@@ -114,8 +111,8 @@ module _ (schema t s : List ℕ) (low n p : ℕ) {count : ℕ} (c : SchemaIn sch
   pub good_end : p + get_or t (16 * n + 5) 0 ≤ length s
   good_end = omega (arith, inside.0, three)
 
-pub take_shape : (schema t : List ℕ) (n : ℕ) {count : ℕ} → SchemaIn schema t count → n < count → Shape t n
-take_shape schema t n c b = shape_of schema t n (laid schema t c.table) (omega (arith, c.counted))
+pub take_shape : (schema t : List ℕ) (n : ℕ) {count : ℕ} → Tabled schema t → count ≡ length (schema_of schema) → n < count → Shape t n
+take_shape schema t n d c b = shape_of schema t n (laid schema t d) (omega (arith, c))
 
 -- ---- the rows
 
@@ -124,12 +121,12 @@ pub if_kept : (keep : Bool) (n o : ℕ) (t : List ℕ) → keep ≡ true
 unfolding note_if note short
 if_kept keep n o t e = rw e
 
-pub if-slot : (t : List ℕ) (n i v : ℕ) → Room t n → row_slot n < length (set t i v)
-if-slot t n i v w = omega (arith, w.long, length-set t i v)
+pub if_slot : (t : List ℕ) (n i v : ℕ) → Room t n → row_slot n < length (set t i v)
+if_slot t n i v w = omega (arith, w.long, length-set t i v)
 
-pub if-not : (keep : Bool) (n o : ℕ) (t : List ℕ) → keep ≡ false → t ≡ note_if keep n o t
+pub if_not : (keep : Bool) (n o : ℕ) (t : List ℕ) → keep ≡ false → t ≡ note_if keep n o t
 unfolding note_if
-if-not keep n o t e = rw e
+if_not keep n o t e = rw e
 
 pub open-room : (count low : ℕ) (t : List ℕ) (n : ℕ) → Open count low t → low ≤ n → n < count → Room t n
 open-room count low t n w a b = record { long = omega (arith, w.long); room = w.room n a }
@@ -209,7 +206,7 @@ module _ (t s : List ℕ) (keep : Bool) (h from : ℕ) (u₀ : List ℕ) (count 
 
       module _ (e : is_next t s n p ≡ true) where
         row_inside : get_or t (16 * n + 5) 0 ≤ length s - p
-        row_inside = (whole-inside s (get_or t (16 * n + 5) 0) p (good-whole t s n p (next-back t s n p e).0)).0
+        row_inside = (whole-inside s (get_or t (16 * n + 5) 0) p (good_whole t s n p (next-back t s n p e).0)).0
 
         pub row_end : p + get_or t (16 * n + 5) 0 ≤ length s
         row_end = omega (arith, row_inside, row_shape.least)
@@ -228,13 +225,13 @@ module _ (t s : List ℕ) (keep : Bool) (h from : ℕ) (u₀ : List ℕ) (count 
             })
 
 -- what is left after those equals what was left before
-module _ (schema t s : List ℕ) {count : ℕ} (c : SchemaIn schema t count) where
+module _ (schema t s : List ℕ) {count : ℕ} (x : Tabled schema t) (c : count ≡ length (schema_of schema)) where
   row_named : (n p : ℕ) → n < count → is_next t s n p ≡ true → got n (p + get_or t (16 * n + 5) 0) ≡ rule_read (rule (schema_of schema) s n p)
   row_named n p b e =
       let d = next-back t s n p e in
-      let i = (whole-inside s (get_or t (16 * n + 5) 0) p (good-whole t s n p d.0)).0 in
-      let k : p ≤ length s = omega (arith, (take_shape schema t n c b).least) in
-      good_rule schema t s n n p c (omega arith) b (sym d.1) k d.0
+      let i = (whole-inside s (get_or t (16 * n + 5) 0) p (good_whole t s n p d.0)).0 in
+      let k : p ≤ length s = omega (arith, (take_shape schema t n x c b).least) in
+      good_rule schema t s n n p x c (omega arith) b (sym d.1) k d.0
 
   row-left : (keep : Bool) (h from : ℕ) (u₀ : List ℕ) {n p : ℕ} {u : List ℕ} → InRow t s keep h from u₀ n p u → n ≤ count
       → (k : ℕ) → left_of (schema_of schema) s keep h k n p u ≡ left_of (schema_of schema) s keep h (n + k) 0 from u₀
@@ -287,8 +284,8 @@ module _ (schema s : List ℕ) (keep : Bool) (h n low₀ p₀ : ℕ) (t₀ : Lis
             room = open_next keep count low v (h + p + 3) t i.room (rule-above g s low p x);
           })
 
-      pub rest_room : {table : List ℕ} → SchemaIn schema table count → Room t v
-      rest_room c = open-room count low t v i.room (rule-above g s low p x) (omega (arith, c.counted, rule-below g s low p x))
+      pub rest_room : count ≡ length (schema_of schema) → Room t v
+      rest_room c = open-room count low t v i.room (rule-above g s low p x) (omega (arith, c, rule-below g s low p x))
 
       pub rest_offset : p + 3 ≤ length s
       rest_offset = omega (arith, rule-width g s low p x, rule_end g s low p x i.inside)
@@ -298,20 +295,20 @@ module _ (schema s : List ℕ) (keep : Bool) (h n low₀ p₀ : ℕ) (t₀ : Lis
 
 -- ---- all of them
 
-pub shapes_end : (schema t : List ℕ) {count k r : ℕ} → SchemaIn schema t count → RowEnd k count r → Shapes t r
-shapes_end schema t c e =
-    let w = shapes-of schema t c in
-    record { few = omega (arith, w.few, e.most); long = omega (arith, w.long, e.most); each = λ n l. w.each n (omega (arith, e.most)) }
+pub shapes_end : (schema t : List ℕ) {count k r : ℕ} → Tabled schema t → count ≡ length (schema_of schema) → RowEnd k count r → Shapes t r
+shapes_end schema t d c e =
+    let w = shapes-of schema t d in
+    record { few = omega (arith, c, w.few, e.most); long = omega (arith, c, w.long, e.most); each = λ n l. w.each n (omega (arith, c, e.most)) }
 
 pub open_end : (count low : ℕ) (t : List ℕ) {k r : ℕ} → Open count low t → RowEnd k count r → Open r low t
 open_end count low t w e = record { long = omega (arith, w.long, e.most); room = w.room }
 
-module _ (schema t s : List ℕ) (keep : Bool) (h from : ℕ) (u₀ : List ℕ) (count n p : ℕ) (u : List ℕ) {k r : ℕ} (c : SchemaIn schema t count) (d : RowEnd k count r)
-    (i : Row t s keep h from u₀ r n p u) where
+module _ (schema t s : List ℕ) (keep : Bool) (h from : ℕ) (u₀ : List ℕ) (count n p : ℕ) (u : List ℕ) {k r : ℕ} (x : Tabled schema t)
+    (c : count ≡ length (schema_of schema)) (d : RowEnd k count r) (i : Row t s keep h from u₀ r n p u) where
   pub row_open : Open count 0 u₀ → Open count n u
   row_open w = record { long = omega (arith, w.long, i.same); room = i.room.room }
 
   pub rules_row : {Y : Run (List ℕ)} → Y ≡ left_of (schema_of schema) s keep h (k - n) n p u → Y ≡ left_of (schema_of schema) s keep h k 0 from u₀
   rules_row {Y} y =
-      y ∙ row-left schema t s c keep h from u₀ i.row (omega (arith, i.most, d.most)) (k - n)
+      y ∙ row-left schema t s x c keep h from u₀ i.row (omega (arith, i.most, d.most)) (k - n)
       ∙ ap (λ (m : ℕ). left_of (schema_of schema) s keep h m 0 from u₀) (let z : n + (k - n) ≡ k = omega (arith, i.most, d.few) in z)

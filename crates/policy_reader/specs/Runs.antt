@@ -5,11 +5,10 @@ use Rattle.fields.specs.Reading.{Got, got, bad}
 use Rattle.fields.specs.Answers.{number}
 use Rattle.fields.specs.Runs.{Run, did, refused, run_of}
 use Rattle.fields.specs.declared.Breach.{Breach}
-use Rattle.schema.specs.Schema.{Node}
+use Rattle.schema.specs.Schema.{Node, schema_of}
 use Rattle.schema.specs.Layout.{length_slot}
 use Rattle.policies.specs.Policies.{Rule, Policy, Head as PolicyHead, most_policies, rules, policies_from}
 use Rattle.policies.specs.Pass.{in_force}
-use Rattle.schema.specs.Table.{SchemaIn}
 use Rattle.policies.specs.Rows.{row_slot, note, note_rules, note_policy, note_policies}
 use Rattle.policy_reader.specs.Body.{is_next}
 use Rattle.policy_reader.specs.declared.Head.{Head}
@@ -76,11 +75,10 @@ pub record RowEnd (n count r : ℕ) : Type 0 where
 
 -- ---- the turns over the policies of a file
 
--- the table of the schema file s, which has so many nodes, and rows in which j policies were noted
-pub record Ready (s t : List ℕ) (count j : ℕ) (rows : List ℕ) : Type 0 where
-  pub schema : SchemaIn s t count
+-- rows of the nodes of the schema file s, in which j policies were noted
+pub record Ready (s : List ℕ) (j : ℕ) (rows : List ℕ) : Type 0 where
   pub upto : j ≤ most_policies
-  pub long : row_slot count ≤ length rows
+  pub long : row_slot (length (schema_of s)) ≤ length rows
   pub few : (n : ℕ) → get_or rows (row_slot n) 0 ≤ j
 
 -- what is left from p on, after j policies, does to the rows t

@@ -7,13 +7,13 @@ ghost use Rattle.fields.specs.Answers.{as_got};
 ghost use Rattle.fields.specs.Runs.{outcome, run_of};
 ghost use Rattle.schema.specs.Schema.{schema_of};
 ghost use Rattle.policies.specs.Policies.{rule, head, policy};
-ghost use Rattle.schema.specs.Table.{SchemaIn};
 ghost use Rattle.policies.specs.Rows.{RowsRoom};
 ghost use Rattle.policy_reader.specs.Body.{excess_of, masks_fit, Looking, is_whole, is_good, is_next, Shape, Shapes};
 ghost use Rattle.policy_reader.specs.Runs.{head_read, rule_read, note_if, note_in_force, left_of, Room, Open, Row, RowEnd, Ready, Turned};
 ghost use Rattle.policy_reader.specs.Answers.{YieldsPolicies};
 
 use fields::{BigEndian, Breach, Fault};
+use nodes::Schema;
 use policies::{MOST_POLICIES, ROW_SLOTS};
 use reading::{read, read_mark};
 use schema::NODE_SLOTS;
@@ -50,6 +50,7 @@ fn read_head(b: &[u8]) -> Result<(Head, usize), Breach>
 
 // The bits of a mask that no value of its variable has, as a number: that of node n's variable k, in a PN whose ranks begin at
 // a position; 0 where the variable is a number.
+#[tactic(auto, using(crate::proofs::Body::mask_spare, crate::proofs::Body::mask_there, crate::proofs::Body::mask_fits))]
 fn excess(table: &[u16], n: usize, k: usize, b: &[u8], from: usize) -> u32
     requires looking { Looking table.now b.now n from }
     requires k_bound { k < 4 }
@@ -93,6 +94,7 @@ fn is_whole(b: &[u8], width: usize, at: usize) -> bool
 }
 
 // Whether a PN of node n stands at a position, by one test of the length, then of the mark and the masks.
+#[tactic(auto, using(crate::proofs::Body::good_not, crate::proofs::Body::good_bare, crate::proofs::Body::good_masks, crate::proofs::Body::good_looking))]
 fn is_good(table: &[u16], n: usize, b: &[u8], at: usize) -> bool
     requires shape { Shape table.now n }
     requires at_in_bounds { at ≤ length b.now }
@@ -108,6 +110,7 @@ fn is_good(table: &[u16], n: usize, b: &[u8], at: usize) -> bool
 }
 
 // The same, where the node that the PN names is not known to be n.
+#[tactic(auto, using(crate::proofs::Body::node_there, crate::proofs::Body::good_looking, crate::proofs::Body::next_other, crate::proofs::Body::next_not))]
 fn is_next(table: &[u16], n: usize, b: &[u8], at: usize) -> bool
     requires shape { Shape table.now n }
     requires at_in_bounds { at ≤ length b.now }
@@ -126,6 +129,7 @@ fn is_next(table: &[u16], n: usize, b: &[u8], at: usize) -> bool
 }
 
 // A PN of node n whose ranks begin at an offset of the file, noted in the node's row, if its policy is kept.
+#[tactic(auto, using(crate::proofs::Rules::if_slot, crate::proofs::Rules::if_not))]
 fn note_if(keep: bool, n: usize, offset: usize, rows: &mut [u16])
     requires { Room rows.old n }
     ensures { rows.new ≡ note_if keep n offset rows.old }
@@ -139,7 +143,7 @@ fn note_if(keep: bool, n: usize, offset: usize, rows: &mut [u16])
 
 // The PN of the nodes from 0 on that stand in a row: a loop of its own, in which the node is known before the PN is read, so
 // that one PN need not wait for the one before it.
-#[tactic(auto, using(crate::proofs::Rules::row_init, crate::proofs::Rules::row_all, crate::proofs::Rules::row_room, crate::proofs::Rules::row_shape, crate::proofs::Rules::row_end, crate::proofs::Rules::row_offset, crate::proofs::Rules::row_step))]
+#[tactic(auto, using(crate::proofs::Rules::row_all, crate::proofs::Rules::row_room, crate::proofs::Rules::row_shape, crate::proofs::Rules::row_end))]
 fn take_row(
     table: &[u16],
     count: usize,
@@ -167,16 +171,15 @@ fn take_row(
 }
 
 // A PN, of a node not below the lowest that may follow, field by field: its node, and the position after it.
-#[tactic(auto, using(crate::proofs::Rules::rule_bad, crate::proofs::Rules::node_in, crate::proofs::Rules::rule_low, crate::proofs::Rules::rule_high, crate::proofs::Rules::rule_refused, crate::proofs::Rules::rule_named), unfolding(fields::specs::Reading::part, fields::specs::Reading::field, policies::specs::Policies::rule))]
+#[tactic(auto, using(crate::proofs::Rules::rule_bad, crate::proofs::Rules::rule_low, crate::proofs::Rules::rule_high, crate::proofs::Rules::rule_refused, crate::proofs::Rules::rule_named), unfolding(fields::specs::Reading::part, fields::specs::Reading::field, policies::specs::Policies::rule))]
 fn read_rule(
-    schema: &[u8],
-    table: &[u16],
+    schema: &Schema,
     count: usize,
     b: &[u8],
     from: Progress,
 ) -> Result<(usize, usize), Breach>
-    requires { SchemaIn schema.now table.now count }
-    ensures { as_got result ≡ rule_read (rule (schema_of schema.now) b.now from.low from.at) }
+    requires { count ≡ length (schema_of schema.now.bytes.now) }
+    ensures { as_got result ≡ rule_read (rule (schema_of schema.now.bytes.now) b.now from.low from.at) }
 {
     let at = read_mark(b, from.at, b"PN")?;
     let (node, body) = read::<u8>(b, at)?;
@@ -184,39 +187,37 @@ fn read_rule(
     if node < from.low || count <= node {
         return Err(Breach::new(Fault::Node, at));
     }
-    let next = rule_reader::read_fields(schema, table, node, b, body)?;
+    let next = rule_reader::read_fields(schema, node, b, body)?;
     Ok((node, next))
 }
 
 // The same, at once where it is plainly good.
-#[tactic(auto, using(crate::proofs::Rules::take_shape, crate::proofs::Rules::good_rule, crate::proofs::Rules::good_end))]
+#[tactic(auto, using(crate::proofs::Rules::good_end))]
 fn take_rule(
-    schema: &[u8],
-    table: &[u16],
+    schema: &Schema,
     count: usize,
     b: &[u8],
     from: Progress,
 ) -> Result<(usize, usize), Breach>
-    requires schema_in { SchemaIn schema.now table.now count }
+    requires counted { count ≡ length (schema_of schema.now.bytes.now) }
     requires at_in_bounds { from.at ≤ length b.now }
-    ensures { as_got result ≡ rule_read (rule (schema_of schema.now) b.now from.low from.at) }
+    ensures { as_got result ≡ rule_read (rule (schema_of schema.now.bytes.now) b.now from.low from.at) }
 {
     let at = from.at;
     if 3 <= b.len() - at {
         let node = usize::from(b[at + 2]);
-        if from.low <= node && node < count && is_good(table, node, b, at) {
-            let next = at + (table[NODE_SLOTS * node + 5] as usize);
+        if from.low <= node && node < count && is_good(schema.table, node, b, at) {
+            let next = at + (schema.table[NODE_SLOTS * node + 5] as usize);
             return Ok((node, next));
         }
     }
-    read_rule(schema, table, count, b, from)
+    read_rule(schema, count, b, from)
 }
 
 // The n PN of a policy from a position on, of nodes not below the lowest, noted if it is kept.
-#[tactic(auto, using(crate::proofs::Rules::rest_init, crate::proofs::Rules::rest_bad, crate::proofs::Rules::rest_step, crate::proofs::Rules::rest_room, crate::proofs::Rules::rest_offset, crate::proofs::Rules::rest_small, crate::proofs::Rules::rest_exit))]
+#[tactic(auto, using(crate::proofs::Rules::rest_init))]
 fn take_rest(
-    schema: &[u8],
-    table: &[u16],
+    schema: &Schema,
     count: usize,
     b: &[u8],
     head: usize,
@@ -225,15 +226,15 @@ fn take_rest(
     keep: bool,
     rows: &mut [u16],
 ) -> Result<usize, Breach>
-    requires schema_in { SchemaIn schema.now table.now count }
+    requires counted { count ≡ length (schema_of schema.now.bytes.now) }
     requires b_bound { head + length b.now < 2 ^ 64 }
     requires at_in_bounds { from.at ≤ length b.now }
     requires fact { Open count from.low rows.old }
-    ensures { outcome result rows.new ≡ left_of (schema_of schema.now) b.now keep head n from.low from.at rows.old }
+    ensures { outcome result rows.new ≡ left_of (schema_of schema.now.bytes.now) b.now keep head n from.low from.at rows.old }
 {
     let mut row = from;
     for _turn in 0..n {
-        let (node, next) = take_rule(schema, table, count, b, row)?;
+        let (node, next) = take_rule(schema, count, b, row)?;
         note_if(keep, node, head + row.at + 3, rows);
         row = Progress {
             low: node + 1,
@@ -251,11 +252,9 @@ fn row_end(n: usize, count: usize) -> usize
 }
 
 // The n PN of a policy, noted if it is kept. As a rule there is one for each node: then they stand in a row.
-#[tactic(auto, using(crate::proofs::Rules::shapes_end, crate::proofs::Rules::open_end, crate::proofs::Rules::row_open, crate::proofs::Rules::rules_row))]
+#[tactic(auto, using(crate::proofs::Rules::open_end, crate::proofs::Rules::row_open))]
 fn read_rules(
-    schema: &[u8],
-    table: &[u16],
-    count: usize,
+    schema: &Schema,
     b: &[u8],
     head: usize,
     n: usize,
@@ -263,14 +262,14 @@ fn read_rules(
     keep: bool,
     rows: &mut [u16],
 ) -> Result<usize, Breach>
-    requires schema_in { SchemaIn schema.now table.now count }
     requires b_bound { head + length b.now < 2 ^ 64 }
     requires from_in_bounds { from ≤ length b.now }
-    requires fact { Open count 0 rows.old }
-    ensures { outcome result rows.new ≡ left_of (schema_of schema.now) b.now keep head n 0 from rows.old }
+    requires fact { Open (length (schema_of schema.now.bytes.now)) 0 rows.old }
+    ensures { outcome result rows.new ≡ left_of (schema_of schema.now.bytes.now) b.now keep head n 0 from rows.old }
 {
-    let row = take_row(table, row_end(n, count), b, head, from, keep, rows);
-    take_rest(schema, table, count, b, head, n - row.low, row, keep, rows)
+    let count = schema.node_count();
+    let row = take_row(schema.table, row_end(n, count), b, head, from, keep, rows);
+    take_rest(schema, count, b, head, n - row.low, row, keep, rows)
 }
 
 // Whether a policy of these days is in force in the pass from a to b.
@@ -283,32 +282,27 @@ fn is_in_force(first: u16, last: u16, a: u16, b: u16) -> bool
 // The policy whose head stands at an offset of the file, read on its own stretch, and noted if it is in force.
 #[tactic(auto, using(crate::proofs::File::policy_bad, crate::proofs::File::policy_rules, crate::proofs::File::rules_inside, crate::proofs::File::stretch_fits))]
 fn read_policy(
-    schema: &[u8],
-    table: &[u16],
-    count: usize,
+    schema: &Schema,
     p: &[u8],
     head: usize,
     a: u16,
     b: u16,
     rows: &mut [u16],
 ) -> Result<usize, Breach>
-    requires schema_in { SchemaIn schema.now table.now count }
     requires head_in_bounds { head ≤ length p.now }
-    requires fact { Open count 0 rows.old }
-    ensures { outcome result rows.new ≡ run_of (note_in_force a b head) (policy (schema_of schema.now) (drop head p.now)) rows.old }
+    requires fact { Open (length (schema_of schema.now.bytes.now)) 0 rows.old }
+    ensures { outcome result rows.new ≡ run_of (note_in_force a b head) (policy (schema_of schema.now.bytes.now) (drop head p.now)) rows.old }
 {
     let own = &p[head..];
     let (h, next) = read_head(own)?;
     let keep = is_in_force(h.first, h.last, a, b);
     let n = usize::from(h.count);
-    read_rules(schema, table, count, own, head, n, next, keep, rows)
+    read_rules(schema, own, head, n, next, keep, rows)
 }
 
 // The turn at an offset of the file, after j policies: the offset after one more, or none where the file ends.
 fn turn_at(
-    schema: &[u8],
-    table: &[u16],
-    count: usize,
+    schema: &Schema,
     p: &[u8],
     at: usize,
     j: usize,
@@ -316,8 +310,8 @@ fn turn_at(
     b: u16,
     rows: &mut [u16],
 ) -> Result<Option<usize>, Breach>
-    requires { Ready schema.now table.now count j rows.old }
-    ensures { Turned (schema_of schema.now) p.now a b j at rows.old result rows.new }
+    requires { Ready schema.now.bytes.now j rows.old }
+    ensures { Turned (schema_of schema.now.bytes.now) p.now a b j at rows.old result rows.new }
 {
     if p.len() <= at {
         return Ok(None);
@@ -325,7 +319,7 @@ fn turn_at(
     if j == MOST_POLICIES {
         return Err(Breach::new(Fault::PolicyCount, at));
     }
-    match read_policy(schema, table, count, p, at, a, b, rows) {
+    match read_policy(schema, p, at, a, b, rows) {
         Ok(width) => Ok(Some(at + width)),
         Err(e) => Err(Breach::new(e.fault, at + e.offset)),
     }
@@ -340,23 +334,20 @@ struct Walker<'a> {
 
 // The whole file, in turn with the pass from a to b: checked, and where it is accepted the rows note the policies in force.
 // A walker goes from head to head; what a turn does stands in a function of a slice and numbers.
-#[tactic(auto, using(crate::proofs::File::file_init, crate::proofs::File::turn_ready, crate::proofs::File::file_yields))]
+#[tactic(auto, using(crate::proofs::File::turn_ready))]
 pub fn read_policies(
-    schema: &[u8],
-    table: &[u16],
-    count: usize,
+    schema: &Schema,
     p: &[u8],
     a: u16,
     b: u16,
     rows: &mut [u16],
 ) -> Result<usize, Breach>
-    requires schema_in { SchemaIn schema.now table.now count }
-    requires rows_room { RowsRoom schema.now rows.old }
-    ensures { YieldsPolicies schema.now p.now a b result rows.new }
+    requires { RowsRoom schema.now.bytes.now rows.old }
+    ensures { YieldsPolicies schema.now.bytes.now p.now a b result rows.new }
 {
     let mut w = Walker { bytes: p, at: 0 };
     let mut j = 0;
-    while let Some(next) = turn_at(schema, table, count, w.bytes, w.at, j, a, b, rows)? {
+    while let Some(next) = turn_at(schema, w.bytes, w.at, j, a, b, rows)? {
         w.at = next;
         j += 1;
     }

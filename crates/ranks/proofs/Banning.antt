@@ -5,18 +5,18 @@ use mathlib.Core.Bool.{Bool, true, false, not, ◌&&◌}
 use mathlib.Core.List.{List, [], ◌∷◌}
 use Prim.Native.Nat.{ℕ, zero, suc, ◌+◌, ◌≤◌, ◌<◌, max}
 use native.Mathlib.Omega.{arith}
-use native.Mathlib.Nat.{add-zero}
 use native.Mathlib.Decide.{ℕ_discrete}
 use borrow.Author.Tests.{eq-eqb, ne_eqb}
 use lib.Dec.{eqb}
 use lib.ListN.{length, get_or, take, drop, set, length-set}
-use lib.Seq.{get_or-set_same, get_or-set_other}
+use lib.Seq.{get_or-set_same, get_or-set_other, get_or-take, get_or-drop}
 use Rattle.fields.proofs.Bytes.{Bytes}
 use Rattle.fields.proofs.Tests.{never}
 use Rattle.policies.specs.Rows.{BytesAt}
-use Rattle.policies.proofs.Offsets.{none_left}
-use Rattle.ranks.specs.Ranks.{Bans, allowed_at, BansEight}
-use Rattle.ranks.proofs.Allowing.{ask-first}
+use Rattle.policies.proofs.Offsets.{stretch}
+use Rattle.policies.proofs.Part.{rest}
+use Rattle.ranks.specs.Ranks.{Bans, allowed_at, BansEight, GreaterRanks}
+use Rattle.ranks.proofs.Allowing.{ask_first, asked_all}
 
 -- ---- the greater of two ranks
 
@@ -49,124 +49,102 @@ below-eight P a b c d e f g h (suc (suc (suc (suc (suc (suc zero)))))) l = g
 below-eight P a b c d e f g h (suc (suc (suc (suc (suc (suc (suc zero))))))) l = h
 below-eight P a b c d e f g h (suc (suc (suc (suc (suc (suc (suc (suc k)))))))) l = absurd (omega arith)
 
+-- eight by one another
+pub greater_each : (a b : List ℕ) {x₀ x₁ x₂ x₃ x₄ x₅ x₆ x₇ : ℕ} → x₀ ≡ max (get_or a 0 0) (get_or b 0 0) → x₁ ≡ max (get_or a 1 0) (get_or b 1 0)
+    → x₂ ≡ max (get_or a 2 0) (get_or b 2 0) → x₃ ≡ max (get_or a 3 0) (get_or b 3 0) → x₄ ≡ max (get_or a 4 0) (get_or b 4 0)
+    → x₅ ≡ max (get_or a 5 0) (get_or b 5 0) → x₆ ≡ max (get_or a 6 0) (get_or b 6 0) → x₇ ≡ max (get_or a 7 0) (get_or b 7 0)
+    → GreaterRanks a b (x₀ ∷ x₁ ∷ x₂ ∷ x₃ ∷ x₄ ∷ x₅ ∷ x₆ ∷ x₇ ∷ [])
+greater_each a b {x₀} {x₁} {x₂} {x₃} {x₄} {x₅} {x₆} {x₇} e₀ e₁ e₂ e₃ e₄ e₅ e₆ e₇ =
+    record {
+      long = refl;
+      each =
+          below-eight (λ k. get_or (x₀ ∷ x₁ ∷ x₂ ∷ x₃ ∷ x₄ ∷ x₅ ∷ x₆ ∷ x₇ ∷ []) k 0 ≡ max (get_or a k 0) (get_or b k 0))
+          e₀ e₁ e₂ e₃ e₄ e₅ e₆ e₇;
+    }
+
 -- the offsets from row r on are left for column k, whose greatest rank so far is x
-record GreatestAt (p : List ℕ) (count : ℕ) (offsets : List ℕ) (r k x : ℕ) : Type 0 where
+record GreatestAt (p offsets : List ℕ) (r k x : ℕ) : Type 0 where
   small : x < 256
-  left : allowed_at p (take count offsets) k ≡ not (eqb x 255) && allowed_at p (drop r (take count offsets)) k
+  left : allowed_at p offsets k ≡ not (eqb x 255) && allowed_at p (drop r offsets) k
 
 -- for each of eight columns, of which t has the greatest ranks so far
-pub record Greatest (p : List ℕ) (count : ℕ) (offsets : List ℕ) (r : ℕ) (t : List ℕ) : Type 0 where
-  each : (k : ℕ) → k < 8 → GreatestAt p count offsets r k (get_or t k 0)
+pub record Greatest (p offsets : List ℕ) (r : ℕ) (t : List ℕ) : Type 0 where
+  pub long : length t ≡ 8
+  each : (k : ℕ) → k < 8 → GreatestAt p offsets r k (get_or t k 0)
 
-pub greatest-init : (p : List ℕ) (count : ℕ) (offsets : List ℕ) → Greatest p count offsets 0 (0 ∷ 0 ∷ 0 ∷ 0 ∷ 0 ∷ 0 ∷ 0 ∷ 0 ∷ [])
-greatest-init p count offsets =
+pub greatest_none : (p offsets : List ℕ) → Greatest p offsets 0 (0 ∷ 0 ∷ 0 ∷ 0 ∷ 0 ∷ 0 ∷ 0 ∷ 0 ∷ [])
+greatest_none p offsets =
     record {
+      long = refl;
       each =
-          below-eight (λ k. GreatestAt p count offsets 0 k (get_or (0 ∷ 0 ∷ 0 ∷ 0 ∷ 0 ∷ 0 ∷ 0 ∷ 0 ∷ []) k 0))
+          below-eight (λ k. GreatestAt p offsets 0 k (get_or (0 ∷ 0 ∷ 0 ∷ 0 ∷ 0 ∷ 0 ∷ 0 ∷ 0 ∷ []) k 0))
           (start 0) (start 1) (start 2) (start 3) (start 4) (start 5) (start 6) (start 7);
     }
   where
-    start : (k : ℕ) → GreatestAt p count offsets 0 k 0
+    start : (k : ℕ) → GreatestAt p offsets 0 k 0
     start k = record { small = omega arith; left = refl }
 
-module _ (p : List ℕ) (count : ℕ) (offsets : List ℕ) (r : ℕ) {i : ℕ} (b : BytesAt p count offsets i) (h : r < count) (y : Bytes p) where
-  turn : (k x z : ℕ) → GreatestAt p count offsets r k x → z ≡ max x (get_or p (get_or offsets r 0 + k) 0) → GreatestAt p count offsets (r + 1) k z
-  turn k x z w e =
-      let rest = allowed_at p (drop (r + 1) (take count offsets)) k in
-      let here = not (eqb (get_or p (get_or offsets r 0 + k) 0) 255) in
-      let byte = (y (get_or offsets r 0 + k)).fits in
-      record {
-        small = omega (arith, w.small);
-        left =
-            w.left
-            ∙ ap (λ (c : Bool). not (eqb x 255) && c) (ask-first p k count offsets r b.long h)
-            ∙ and_left (not (eqb x 255)) here rest
-            ∙ ap (λ (c : Bool). c && rest) (sym (greater-bans x (get_or p (get_or offsets r 0 + k) 0) z e w.small byte));
-      }
+module _ (p offsets : List ℕ) (r : ℕ) (t : List ℕ) (w : Greatest p offsets r t) where
+  -- eight ranks stand from an offset on
+  pub greatest_more : {s u : List ℕ} {o : ℕ} → Bytes p → r < length offsets → o ≡ get_or offsets r 0 → s ≡ take 8 (stretch p o) → GreaterRanks t s u → Greatest p offsets (r + 1) u
+  greatest_more {s} {u} {o} y h eo e g = record { long = g.long; each = λ k l. turn k l }
+    where
+      turn : (k : ℕ) → k < 8 → GreatestAt p offsets (r + 1) k (get_or u k 0)
+      turn k l =
+          let x = get_or t k 0 in
+          let b = get_or p (get_or offsets r 0 + k) 0 in
+          let q = allowed_at p (drop (r + 1) offsets) k in
+          let z : get_or s k 0 ≡ b =
+          ap (λ (i : List ℕ). get_or i k 0) (e ∙ ap (take 8) (rest p o) ∙ ap (λ (i : ℕ). take 8 (drop i p)) eo) ∙ get_or-take 8 (drop (get_or offsets r 0) p) k 0 l ∙ get_or-drop (get_or offsets r 0) p k 0 in
+          let m : get_or u k 0 ≡ max x b = g.each k l ∙ ap (max x) z in
+          let n = (y (get_or offsets r 0 + k)).fits in
+          record {
+            small = omega (arith, (w.each k l).small);
+            left =
+                (w.each k l).left
+                ∙ ap (λ (c : Bool). not (eqb x 255) && c) (ask_first p k offsets r h)
+                ∙ and_left (not (eqb x 255)) (not (eqb b 255)) q
+                ∙ ap (λ (c : Bool). c && q) (sym (greater-bans x b (get_or u k 0) m (w.each k l).small n));
+          }
 
-  pub greatest-step : {a₀ a₁ a₂ a₃ a₄ a₅ a₆ a₇ b₀ b₁ b₂ b₃ b₄ b₅ b₆ b₇ : ℕ} → Greatest p count offsets r (a₀ ∷ a₁ ∷ a₂ ∷ a₃ ∷ a₄ ∷ a₅ ∷ a₆ ∷ a₇ ∷ [])
-      → b₀ ≡ max a₀ (get_or p (get_or offsets r 0) 0) → b₁ ≡ max a₁ (get_or p (get_or offsets r 0 + 1) 0)
-      → b₂ ≡ max a₂ (get_or p (get_or offsets r 0 + 2) 0) → b₃ ≡ max a₃ (get_or p (get_or offsets r 0 + 3) 0)
-      → b₄ ≡ max a₄ (get_or p (get_or offsets r 0 + 4) 0) → b₅ ≡ max a₅ (get_or p (get_or offsets r 0 + 5) 0)
-      → b₆ ≡ max a₆ (get_or p (get_or offsets r 0 + 6) 0) → b₇ ≡ max a₇ (get_or p (get_or offsets r 0 + 7) 0)
-      → Greatest p count offsets (r + 1) (b₀ ∷ b₁ ∷ b₂ ∷ b₃ ∷ b₄ ∷ b₅ ∷ b₆ ∷ b₇ ∷ [])
-  greatest-step {a₀} {a₁} {a₂} {a₃} {a₄} {a₅} {a₆} {a₇} {b₀} {b₁} {b₂} {b₃} {b₄} {b₅} {b₆} {b₇} w e₀ e₁ e₂ e₃ e₄ e₅ e₆ e₇ =
-      record {
-        each =
-            below-eight (λ k. GreatestAt p count offsets (r + 1) k (get_or (b₀ ∷ b₁ ∷ b₂ ∷ b₃ ∷ b₄ ∷ b₅ ∷ b₆ ∷ b₇ ∷ []) k 0))
-            (turn 0 a₀ b₀ (w.each 0 (omega arith)) (e₀ ∙ ap (λ (i : ℕ). max a₀ (get_or p i 0)) (sym (add-zero (get_or offsets r 0)))))
-            (turn 1 a₁ b₁ (w.each 1 (omega arith)) e₁)
-            (turn 2 a₂ b₂ (w.each 2 (omega arith)) e₂)
-            (turn 3 a₃ b₃ (w.each 3 (omega arith)) e₃)
-            (turn 4 a₄ b₄ (w.each 4 (omega arith)) e₄)
-            (turn 5 a₅ b₅ (w.each 5 (omega arith)) e₅)
-            (turn 6 a₆ b₆ (w.each 6 (omega arith)) e₆)
-            (turn 7 a₇ b₇ (w.each 7 (omega arith)) e₇);
-      }
-
--- eight stores fill eight places
-stored : (t : List ℕ) (a b c d e f g h : ℕ) → length t ≡ 8 → set (set (set (set (set (set (set (set t 0 a) 1 b) 2 c) 3 d) 4 e) 5 f) 6 g) 7 h ≡ a ∷ b ∷ c ∷ d ∷ e ∷ f ∷ g ∷ h ∷ []
-stored [] a b c d e f g h l = absurd (omega arith)
-stored (x₀ ∷ []) a b c d e f g h l = absurd (omega arith)
-stored (x₀ ∷ x₁ ∷ []) a b c d e f g h l = absurd (omega arith)
-stored (x₀ ∷ x₁ ∷ x₂ ∷ []) a b c d e f g h l = absurd (omega arith)
-stored (x₀ ∷ x₁ ∷ x₂ ∷ x₃ ∷ []) a b c d e f g h l = absurd (omega arith)
-stored (x₀ ∷ x₁ ∷ x₂ ∷ x₃ ∷ x₄ ∷ []) a b c d e f g h l = absurd (omega arith)
-stored (x₀ ∷ x₁ ∷ x₂ ∷ x₃ ∷ x₄ ∷ x₅ ∷ []) a b c d e f g h l = absurd (omega arith)
-stored (x₀ ∷ x₁ ∷ x₂ ∷ x₃ ∷ x₄ ∷ x₅ ∷ x₆ ∷ []) a b c d e f g h l = absurd (omega arith)
-stored (x₀ ∷ x₁ ∷ x₂ ∷ x₃ ∷ x₄ ∷ x₅ ∷ x₆ ∷ x₇ ∷ []) a b c d e f g h l = refl
-stored (x₀ ∷ x₁ ∷ x₂ ∷ x₃ ∷ x₄ ∷ x₅ ∷ x₆ ∷ x₇ ∷ x₈ ∷ xs) a b c d e f g h l = absurd (omega arith)
-
-pub greatest-exit : (p : List ℕ) (count : ℕ) (offsets : List ℕ) (r : ℕ) (t : List ℕ) {a b c d e f g h i : ℕ} → Greatest p count offsets r (a ∷ b ∷ c ∷ d ∷ e ∷ f ∷ g ∷ h ∷ []) → BytesAt p count offsets i → count ≤ r → length t ≡ 8
-    → BansEight (allowed_at p (take count offsets)) (set (set (set (set (set (set (set (set t 0 a) 1 b) 2 c) 3 d) 4 e) 5 f) 6 g) 7 h) true
-unfolding allowed_at
-greatest-exit p count offsets r t {a} {b} {c} {d} {e} {f} {g} {h} w y l m =
-    rw (stored t a b c d e f g h m) (record { long = refl; told = λ _. record { long = refl; each = λ k v. sym (one k v) } })
-  where
-    one : (k : ℕ) → k < 8 → allowed_at p (take count offsets) k ≡ not (eqb (get_or (a ∷ b ∷ c ∷ d ∷ e ∷ f ∷ g ∷ h ∷ []) k 0) 255)
-    one k v =
-        let x = not (eqb (get_or (a ∷ b ∷ c ∷ d ∷ e ∷ f ∷ g ∷ h ∷ []) k 0) 255) in
-        (w.each k v).left
-        ∙ ap (λ (os : List ℕ). x && allowed_at p os k) (none_left count offsets r y.long l)
-        ∙ and-true x
+  pub greatest_done : length offsets ≤ r → BansEight (allowed_at p offsets) t true
+  greatest_done h = record { long = w.long; told = λ _. record { long = w.long; each = λ k v. sym (one k v) } }
+    where
+      one : (k : ℕ) → k < 8 → allowed_at p offsets k ≡ not (eqb (get_or t k 0) 255)
+      one k v =
+          let x = not (eqb (get_or t k 0) 255) in
+          (w.each k v).left ∙ ap (λ (b : Bool). x && b) (asked_all p k offsets r h) ∙ and-true x
 
 -- where fewer bytes stand, nothing is told
-pub eight-no : (ok : ℕ → Bool) (t : List ℕ) → length t ≡ 8 → BansEight ok t false
-eight-no ok t l = record { long = l; told = λ e. never e }
+pub eight_no : (ok : ℕ → Bool) (t : List ℕ) → length t ≡ 8 → BansEight ok t false
+eight_no ok t l = record { long = l; told = λ e. never e }
 
-pub eight-long : (ok : ℕ → Bool) (t : List ℕ) {r : Bool} → BansEight ok t r → length t ≡ 8
-eight-long ok t b = b.long
+pub eight_long : (ok : ℕ → Bool) (t : List ℕ) {r : Bool} → BansEight ok t r → length t ≡ 8
+eight_long ok t b = b.long
 
 -- ---- one column after the other
 
-pub fewer_bytes : (p : List ℕ) (count : ℕ) (offsets : List ℕ) (k width : ℕ) → BytesAt p count offsets width → k ≤ width → BytesAt p count offsets k
-fewer_bytes p count offsets k width b h = record { few = b.few; long = b.long; each = λ r l. omega (arith, b.each r l) }
+pub fewer_bytes : (p offsets : List ℕ) (k width : ℕ) → BytesAt p offsets width → k ≤ width → BytesAt p offsets k
+fewer_bytes p offsets k width b h = record { few = b.few; each = λ r l. omega (arith, b.each r l) }
 
-pub column-room : (p : List ℕ) (count : ℕ) (offsets : List ℕ) (columns k : ℕ) → BytesAt p count offsets columns → k < columns → BytesAt p count offsets (k + 1)
-column-room p count offsets columns k b h = fewer_bytes p count offsets (k + 1) columns b (omega arith)
-
--- the columns below k are told
-pub record Banning (ok : ℕ → Bool) (k : ℕ) (t : List ℕ) : Type 0 where
-  pub long : length t ≡ 8
-  pub below : (i : ℕ) → i < k → not (eqb (get_or t i 0) 255) ≡ ok i
+pub column_room : (p offsets : List ℕ) (columns k : ℕ) → BytesAt p offsets columns → k < columns → BytesAt p offsets (k + 1)
+column_room p offsets columns k b h = fewer_bytes p offsets (k + 1) columns b (omega arith)
 
 module _ (ok : ℕ → Bool) where
-  pub banning-init : (t : List ℕ) → length t ≡ 8 → Banning ok 0 t
-  banning-init t l = record { long = l; below = λ i h. absurd (omega arith) }
+  pub banning_none : (t : List ℕ) → length t ≡ 8 → Bans ok 0 t
+  banning_none t l = record { long = l; each = λ i h. absurd (omega arith) }
 
-  module _ (k : ℕ) (t : List ℕ) {x : Bool} (w : Banning ok k t) (e : x ≡ ok k) where
-    told : (v : ℕ) → not (eqb v 255) ≡ x → k < 8 → Banning ok (k + 1) (set t k v)
-    told v y l = record { long = length-set t k v ∙ w.long; below = λ i h. one i h (ℕ_discrete i k) }
+  -- column k is told by v
+  module _ (k : ℕ) (t : List ℕ) {columns : ℕ} {x : Bool} (w : Bans ok k t) (e : x ≡ ok k) (h : k < columns) (m : columns ≤ 8) where
+    told : (v : ℕ) → not (eqb v 255) ≡ x → Bans ok (k + 1) (set t k v)
+    told v y = record { long = length-set t k v ∙ w.long; each = λ i l. one i l (ℕ_discrete i k) }
       where
         one : (i : ℕ) → i < k + 1 → Dec (i ≡ k) → not (eqb (get_or (set t k v) i 0) 255) ≡ ok i
-        one i h (yes z) = rw z (ap (λ (m : ℕ). not (eqb m 255)) (get_or-set_same t k v 0 (omega (arith, w.long))) ∙ y ∙ e)
-        one i h (no z) = ap (λ (m : ℕ). not (eqb m 255)) (get_or-set_other t k i v 0 z) ∙ w.below i (omega arith)
+        one i l (yes z) = rw z (ap (λ (m : ℕ). not (eqb m 255)) (get_or-set_same t k v 0 (omega (arith, w.long))) ∙ y ∙ e)
+        one i l (no z) = ap (λ (m : ℕ). not (eqb m 255)) (get_or-set_other t k i v 0 z) ∙ w.each i (omega arith)
 
-    pub banning-keep : {columns : ℕ} → x ≡ true → k < columns → columns ≤ 8 → Banning ok (k + 1) (set t k 0)
-    banning-keep y l m = told 0 (sym y) (omega arith)
+    pub banning_keep : {v : ℕ} → x ≡ true → v ≡ 0 → Bans ok (k + 1) (set t k v)
+    banning_keep {v} y z = told v (ap (λ (m : ℕ). not (eqb m 255)) z ∙ sym y)
 
-    pub banning-step : {columns : ℕ} → x ≡ false → k < columns → columns ≤ 8 → Banning ok (k + 1) (set t k 255)
-    banning-step y l m = told 255 (sym y) (omega arith)
-
-  pub banning-exit : (k : ℕ) (t : List ℕ) {columns : ℕ} → Banning ok k t → columns ≤ k → Bans ok columns t
-  banning-exit k t w h = record { long = w.long; each = λ i l. w.below i (omega arith) }
+    pub banning_ban : {v : ℕ} → x ≡ false → v ≡ 255 → Bans ok (k + 1) (set t k v)
+    banning_ban {v} y z = told v (ap (λ (m : ℕ). not (eqb m 255)) z ∙ sym y)

@@ -6,7 +6,7 @@ use mathlib.Core.List.{List}
 use Prim.Native.Nat.{ℕ, ◌<◌}
 use native.Mathlib.Omega.{arith}
 use lib.Dec.{eqb}
-use lib.ListN.{length, get_or}
+use lib.ListN.{length, get_or, take}
 use Rattle.schema.specs.Schema.{Node, node_at}
 use Rattle.schema.specs.Layout.{rank_count}
 use Rattle.schema.proofs.Sound.{Sound}
@@ -38,7 +38,7 @@ allowed-successor g A qs n low k h = sym (allowed_at g A n low qs k (successor-r
 
 -- ---- the gathered ranks: which of two successors is better, by their columns
 
-pub better-gathered : (g : List Node) (A : Sound g) (qs : List Policy) (n : ℕ) → n < length g → (t : List ℕ) {r : ℕ} → RanksGathered (better_column qs n) (rank_count (node_at g n)) t r
-    → (a b : ℕ) → a < rank_count (node_at g n) → b < rank_count (node_at g n) → better_in t r a b ≡ better g qs n (get_or (node_at g n).successors a 0) (get_or (node_at g n).successors b 0)
+pub better-gathered : (g : List Node) (A : Sound g) (qs : List Policy) (n : ℕ) → n < length g → (t : List (List ℕ)) {r : ℕ} → RanksGathered (better_column qs n) (rank_count (node_at g n)) t r
+    → (a b : ℕ) → a < rank_count (node_at g n) → b < rank_count (node_at g n) → better_in (take r t) a b ≡ better g qs n (get_or (node_at g n).successors a 0) (get_or (node_at g n).successors b 0)
 unfolding better_column
 better-gathered g A qs n low t w a b h k = w.each a b h k ∙ sym (better-at g A n low qs a b (successor-ranked (node_at g n) a h) (successor-ranked (node_at g n) b k))

@@ -1,30 +1,30 @@
 -- The ranks that policies give to the successors of a node, by column.
-use Rattle.std.specs.Prelude.{ℕ, ◌+◌, ◌<◌, ◌≤◌, ◌≡◌, Bool, true, false, cond, not, List, [], ◌∷◌, length, get_or, take, drop, eqb, ltb}
+use Rattle.std.specs.Prelude.{ℕ, max, ◌+◌, ◌<◌, ◌≤◌, ◌≡◌, Bool, true, false, cond, not, List, [], ◌∷◌, length, get_or, take, drop, eqb, ltb}
 use Rattle.policies.specs.Policies.{Rule, Policy, most_policies, rank_of}
 use Rattle.model.specs.Satisfaction.{every}
 use Rattle.model.specs.Order.{better_by}
-use Rattle.model.specs.Ranks.{row_slot, rank_in, better_in}
-use Rattle.ranks.specs.declared.RankOrder.{RankOrder}
-use Rattle.ranks.specs.declared.RankOrder.TheVariants.{Before, After, Alike}
+use Rattle.model.specs.Ranks.{rank_in, better_in}
+use Rattle.std.specs.declared.cmp.Ordering.{Ordering}
+use Rattle.std.specs.declared.cmp.Ordering.TheVariants.{Less, Equal, Greater}
 
 -- no policy of the list gives successor k of node n rank 255
 unfoldable pub allowed_column : List Policy → ℕ → ℕ → Bool
 allowed_column qs n k = every (λ (q : Policy). not (eqb (rank_of q n k) 255)) qs
 
 -- 'the first policy whose ranks differ decides, lower being better', where rank x c is the rank of column c in x
-unfoldable pub order_by : {X : Type 0} → (X → ℕ → ℕ) → List X → ℕ → ℕ → RankOrder
-order_by rank [] c d = Alike
-order_by rank (x ∷ xs) c d = cond (ltb (rank x c) (rank x d)) Before (cond (ltb (rank x d) (rank x c)) After (order_by rank xs c d))
+unfoldable pub order_by : {X : Type 0} → (X → ℕ → ℕ) → List X → ℕ → ℕ → Ordering
+order_by rank [] c d = Equal
+order_by rank (x ∷ xs) c d = cond (ltb (rank x c) (rank x d)) Less (cond (ltb (rank x d) (rank x c)) Greater (order_by rank xs c d))
 
 -- by the PN of a node, each a policy's
-unfoldable pub rank_order : List Rule → ℕ → ℕ → RankOrder
+unfoldable pub rank_order : List Rule → ℕ → ℕ → Ordering
 rank_order xs c d = order_by (λ (x : Rule) (k : ℕ). get_or x.ranks k 0) xs c d
 
 -- whether the first is better, where last tells so if the ranks are alike
-abbrev pub is_better : RankOrder → Bool → Bool
-is_better Before last = true
-is_better After last = false
-is_better Alike last = last
+abbrev pub is_better : Ordering → Bool → Bool
+is_better Less last = true
+is_better Greater last = false
+is_better Equal last = last
 
 -- t has 255 in those of the first so many columns that are not ok; what it has in others is free
 pub record Bans (ok : ℕ → Bool) (columns : ℕ) (t : List ℕ) : Type 0 where
@@ -35,11 +35,11 @@ pub record Bans (ok : ℕ → Bool) (columns : ℕ) (t : List ℕ) : Type 0 wher
 unfoldable pub better_column : List Policy → ℕ → ℕ → ℕ → Bool
 better_column qs n a b = better_by (λ (q : Policy) (k : ℕ). rank_of q n k) qs a b
 
--- the first r rows of the table t order the first so many columns so; what else it has is free
-pub record RanksGathered (better : ℕ → ℕ → Bool) (columns : ℕ) (t : List ℕ) (r : ℕ) : Type 0 where
+-- the first r of the rows order the first so many columns so; what else they have is free
+pub record RanksGathered (better : ℕ → ℕ → Bool) (columns : ℕ) (rows : List (List ℕ)) (r : ℕ) : Type 0 where
   pub few : r ≤ most_policies
-  pub long : length t ≡ row_slot most_policies
-  pub each : (a b : ℕ) → a < columns → b < columns → better_in t r a b ≡ better a b
+  pub long : length rows ≡ most_policies
+  pub each : (a b : ℕ) → a < columns → b < columns → better_in (take r rows) a b ≡ better a b
 
 -- ---- for the contracts of functions that no other crate calls
 
@@ -59,11 +59,10 @@ pub record BansEight (ok : ℕ → Bool) (t : List ℕ) (r : Bool) : Type 0 wher
   pub long : length t ≡ 8
   pub told : r ≡ true → Bans ok 8 t
 
--- the first k places of row j have the bytes from an offset on, and the rows before it stay
-pub record RowFilled (p : List ℕ) (offset j k : ℕ) (t₀ t : List ℕ) : Type 0 where
-  pub each : (i : ℕ) → i < k → rank_in t j i ≡ get_or p (offset + i) 0
-  pub before : (i : ℕ) → i < row_slot j → get_or t i 0 ≡ get_or t₀ i 0
-  pub long : length t ≡ length t₀
+-- the first k places of a row have the bytes from an offset on
+pub record RowFilled (p : List ℕ) (offset k : ℕ) (row₀ row : List ℕ) : Type 0 where
+  pub each : (i : ℕ) → i < k → rank_in row i ≡ get_or p (offset + i) 0
+  pub long : length row ≡ length row₀
 
 -- which of two columns is better, by the PN whose ranks begin at these offsets of the file p
 unfoldable pub better_at : List ℕ → List ℕ → ℕ → ℕ → Bool
@@ -73,7 +72,14 @@ better_at p os a b = better_by (λ (o k : ℕ). get_or p (o + k) 0) os a b
 pub record AllAlike (p : List ℕ) (offset : ℕ) (r : Bool) : Type 0 where
   pub told : r ≡ true → (k : ℕ) → k < 8 → get_or p (offset + k) 0 ≡ get_or p offset 0
 
--- the first r of so many PN decide nothing: those after them order eight columns as all do
-pub record Skipped (p : List ℕ) (count : ℕ) (offsets : List ℕ) (r : ℕ) : Type 0 where
-  pub upto : r ≤ count
-  pub rest : (x y : ℕ) → x < 8 → y < 8 → better_at p (drop r (take count offsets)) x y ≡ better_at p (take count offsets) x y
+-- rest is what the offsets have after some of them whose PN decide nothing: it orders eight columns as all do
+pub record Skipped (p offsets rest : List ℕ) : Type 0 where
+  pub some : ℕ
+  pub upto : some ≤ length offsets
+  pub left : rest ≡ drop some offsets
+  pub same : (x y : ℕ) → x < 8 → y < 8 → better_at p rest x y ≡ better_at p offsets x y
+
+-- c has the greater of each two of eight ranks
+pub record GreaterRanks (a b c : List ℕ) : Type 0 where
+  pub long : length c ≡ 8
+  pub each : (k : ℕ) → k < 8 → get_or c k 0 ≡ max (get_or a k 0) (get_or b k 0)

@@ -9,6 +9,7 @@ use native.Mathlib.Omega.{arith}
 use borrow.Author.Tests.{le-ltb, ltb-true, ltb-false}
 use lib.Dec.{ltb}
 use lib.ListN.{length}
+use Rattle.std.specs.Prelude.{Some, None}
 use Rattle.fields.specs.Writing.{Wrote}
 use Rattle.fields.specs.Answers.{Answer, success, refusal}
 use Rattle.fields.specs.Outcomes.{Did}
@@ -20,10 +21,8 @@ use Rattle.schema.proofs.Accepted.{sound}
 use Rattle.instances.specs.Instance.{Entry}
 use Rattle.instances.specs.File.{most_bytes, encode}
 use Rattle.instances.specs.Plan.{planned, nodes_of, plan_of}
-use Rattle.planning.specs.Plan.{plan_for, Plans, file_length}
+use Rattle.planning.specs.Plan.{Plan, plan_for, Plans, file_length}
 use Rattle.planning.proofs.Measuring.{file-length-is, file-length-most}
-use Rattle.planning.specs.declared.Plan.{Plan}
-use Rattle.planning.specs.declared.Plan.TheVariants.{Infeasible, Feasible}
 use Rattle.calls.specs.Calls.{given}
 use Rattle.reconciler.specs.Plan.{held_by}
 
@@ -42,7 +41,7 @@ module _ (g : List Node) (o : Option (List Entry)) (choices bits : List ℕ) {pl
   pub did_held : (out : List ℕ) {r : Answer} {after : List ℕ} → Did (given g out (held_by g plan choices bits)) r after → Did (given g out o) r after
   did_held out {r} {after} d = subst (λ (i : Option (List Entry)). Did (given g out i) r after) (held-is g o choices bits w) d
 
-pub no_instance : (g : List Node) (choices bits out : List ℕ) {plan : Plan} → plan ≡ Infeasible → Did (given g out (held_by g plan choices bits)) (refusal 13 0 0) out
+pub no_instance : (g : List Node) (choices bits out : List ℕ) {plan : Plan} → plan ≡ None → Did (given g out (held_by g plan choices bits)) (refusal 13 0 0) out
 unfolding given held_by
 no_instance g choices bits out e = rw e (record { answer = refl; buffer = refl })
 
@@ -54,7 +53,7 @@ room_less s nodes room w = ap (ltb room) w.is
 pub room_most : (s : List ℕ) (nodes : ℕ) {room : ℕ} → Accepted s → Bytes s → most_bytes ≤ room → false ≡ ltb room (file_length (schema_of s) nodes)
 room_most s nodes {room} a x h = sym (le-ltb room (file_length (schema_of s) nodes) (omega (arith, file-length-most (schema_of s) (sound s x a.some) nodes)))
 
-module _ (s choices bits : List ℕ) {plan : Plan} {nodes : ℕ} (w : Plans (schema_of s) (held_by (schema_of s) plan choices bits) choices bits plan) (e : plan ≡ Feasible nodes) where
+module _ (s choices bits : List ℕ) {plan : Plan} {nodes : ℕ} (w : Plans (schema_of s) (held_by (schema_of s) plan choices bits) choices bits plan) (e : plan ≡ Some nodes) where
   abbrev g : List Node
   g = schema_of s
 
@@ -63,7 +62,7 @@ module _ (s choices bits : List ℕ) {plan : Plan} {nodes : ℕ} (w : Plans (sch
 
   pub plan_nodes : nodes ≡ nodes_of (planned (schema_of s) (plan_of (schema_of s) choices bits))
   unfolding held_by plan_for
-  plan_nodes = let z : Feasible nodes ≡ Feasible (nodes_of (planned g (plan_of g choices bits))) = sym e ∙ w.answer ∙ ap (λ (x : Plan). plan_for (held_by g x choices bits)) e in cc
+  plan_nodes = let z : Some nodes ≡ Some (nodes_of (planned g (plan_of g choices bits))) = sym e ∙ w.answer ∙ ap (λ (x : Plan). plan_for (held_by g x choices bits)) e in cc
 
   module _ (a : Accepted s) (x : Bytes s) where
     long-is : file_length g nodes ≡ length file

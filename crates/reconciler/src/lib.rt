@@ -5,8 +5,8 @@ ghost use Rattle.std.specs.Prelude.{◌≡◌, ◌≤◌, ltb};
 ghost use Rattle.fields.specs.Answers.{answer_of};
 ghost use Rattle.fields.specs.Outcomes.{Did};
 ghost use Rattle.schema.specs.Schema.{schema_of};
-ghost use Rattle.schema.specs.Table.{Accepted, Tabled, SetsIn, count_in};
-ghost use Rattle.policies.specs.Rows.{noted, Noted};
+ghost use Rattle.schema.specs.Table.{SetsIn, count_in};
+ghost use Rattle.policies.specs.Rows.{noted};
 ghost use Rattle.instances.specs.Plan.{BitsRoom};
 ghost use Rattle.model.specs.Reconciling.{reconciled};
 ghost use Rattle.planning.specs.Plan.{Plans, file_length, EligibleRoom};
@@ -15,73 +15,59 @@ ghost use Rattle.reconciler.specs.Plan.{held_by};
 
 use fields::{Fault, File, Refusal};
 use instances::MOST_BYTES;
-use nodes::{FEW_NODES, FEW_TABLE_SLOTS, FEWEST_NODES, FEWEST_TABLE_SLOTS, TABLE_SLOTS};
-use planning::Plan;
-use policies::ROW_SLOTS;
+use nodes::{FEW_NODES, FEW_TABLE_SLOTS, FEWEST_NODES, FEWEST_TABLE_SLOTS, Schema, TABLE_SLOTS};
+use policies::{Policies, ROW_SLOTS};
 use schema::{MOST_NODES, MOST_VARIABLES};
 
 // Whether so much room is less than the file of these nodes has bytes; room for the longest file is not.
-#[tactic(auto, using(crate::proofs::Writing::room_less))]
-fn is_short(schema: &[u8], table: &[u16], nodes: u64, room: usize) -> bool
-    requires accepted { Accepted schema.now }
-    requires tabled { Tabled schema.now table.now }
-    ensures { result ≡ ltb room (file_length (schema_of schema.now) nodes) }
+fn is_short(schema: &Schema, nodes: u64, room: usize) -> bool
+    ensures { result ≡ ltb room (file_length (schema_of schema.now.bytes.now) nodes) }
 {
     if room < MOST_BYTES {
-        return room < planning::file_length(schema, table, nodes);
+        return room < planning::file_length(schema, nodes);
     }
     false
 }
 
 // The last rows: 13 where there is no instance, 14 where the buffer is shorter than its file, else the file.
-#[tactic(auto, using(crate::proofs::Writing::no_instance, crate::proofs::Writing::plan_nodes, crate::proofs::Writing::plan_room))]
 fn write_plan(
-    schema: &[u8],
-    table: &[u16],
-    plan: Plan,
+    schema: &Schema,
+    plan: Option<u64>,
     choices: &[u8; MOST_NODES],
     bits: &[u32],
     out: &mut [u8],
 ) -> Result<usize, Refusal>
-    requires accepted { Accepted schema.now }
-    requires tabled { Tabled schema.now table.now }
-    requires bits_room { BitsRoom schema.now bits.now }
-    requires plans { Plans (schema_of schema.now) (held_by (schema_of schema.now) plan choices.now bits.now) choices.now bits.now plan }
-    ensures { Did (given (schema_of schema.now) out.old (held_by (schema_of schema.now) plan choices.now bits.now)) (answer_of (λ n. n) result) out.new }
+    requires bits_room { BitsRoom schema.now.bytes.now bits.now }
+    requires plans { Plans (schema_of schema.now.bytes.now) (held_by (schema_of schema.now.bytes.now) plan choices.now bits.now) choices.now bits.now plan }
+    ensures { Did (given (schema_of schema.now.bytes.now) out.old (held_by (schema_of schema.now.bytes.now) plan choices.now bits.now)) (answer_of (λ n. n) result) out.new }
 {
     match plan {
-        Plan::Infeasible => Err(Refusal::new(Fault::NoInstance)),
-        Plan::Feasible { nodes } => {
-            if is_short(schema, table, nodes, out.len()) {
+        None => Err(Refusal::new(Fault::NoInstance)),
+        Some(nodes) => {
+            if is_short(schema, nodes, out.len()) {
                 return Err(Refusal::new(Fault::Buffer));
             }
-            Ok(writer::write_planned(schema, table, nodes, choices, bits, out))
+            Ok(writer::write_planned(schema, nodes, choices, bits, out))
         }
     }
 }
 
 // The instance for the policies in force, which the rows note: planned, then written.
 fn in_force(
-    schema: &[u8],
-    table: &[u16],
+    policies: &Policies,
     sets: &[u64],
-    p: &[u8],
-    rows: &[u16],
     eligible: &mut [u64],
     bits: &mut [u32],
     out: &mut [u8],
 ) -> Result<usize, Refusal>
-    requires accepted { Accepted schema.now }
-    requires tabled { Tabled schema.now table.now }
-    requires sets_in { SetsIn schema.now sets.now }
-    requires noted { Noted schema.now p.now rows.now }
-    requires eligible_room { EligibleRoom schema.now eligible.old }
-    requires bits_room { BitsRoom schema.now bits.old }
-    ensures { Did (given (schema_of schema.now) out.old (reconciled (schema_of schema.now) (noted (schema_of schema.now) p.now rows.now))) (answer_of (λ n. n) result) out.new }
+    requires sets_in { SetsIn policies.now.schema.bytes.now sets.now }
+    requires eligible_room { EligibleRoom policies.now.schema.bytes.now eligible.old }
+    requires bits_room { BitsRoom policies.now.schema.bytes.now bits.old }
+    ensures { Did (given (schema_of policies.now.schema.bytes.now) out.old (reconciled (schema_of policies.now.schema.bytes.now) (noted (schema_of policies.now.schema.bytes.now) policies.now.bytes.now policies.now.rows.now))) (answer_of (λ n. n) result) out.new }
 {
     let mut choices = [255u8; MOST_NODES];
-    let plan = planning::plan_for(schema, table, sets, p, rows, eligible, &mut choices, bits);
-    write_plan(schema, table, plan, &choices, bits, out)
+    let plan = planning::plan_for(policies, sets, eligible, &mut choices, bits);
+    write_plan(&policies.schema, plan, &choices, bits, out)
 }
 
 // Schema, policies and pass, then the instance, with tables for the fewest nodes. Each size has a function of its own,
@@ -94,20 +80,20 @@ fn with_fewest(schema: &[u8], p: &[u8], a: u16, b: u16, out: &mut [u8]) -> Resul
     let mut table = [0u16; FEWEST_TABLE_SLOTS];
     let mut sets = [0u64; FEWEST_NODES];
     schema::read_schema(schema, &mut table, &mut sets).map_err(|breach| breach.of(File::Schema))?;
+    let schema = Schema {
+        bytes: schema,
+        table: &table,
+    };
     let mut rows = [0u16; ROW_SLOTS * FEWEST_NODES];
-    inputs::read_in_force(schema, &table, p, a, b, &mut rows)?;
+    inputs::read_in_force(&schema, p, a, b, &mut rows)?;
+    let policies = Policies {
+        schema,
+        bytes: p,
+        rows: &rows,
+    };
     let mut eligible = [0u64; FEWEST_NODES];
     let mut bits = [0u32; MOST_VARIABLES * FEWEST_NODES];
-    in_force(
-        schema,
-        &table,
-        &sets,
-        p,
-        &rows,
-        &mut eligible,
-        &mut bits,
-        out,
-    )
+    in_force(&policies, &sets, &mut eligible, &mut bits, out)
 }
 
 // The same with tables for few nodes.
@@ -119,20 +105,20 @@ fn with_few(schema: &[u8], p: &[u8], a: u16, b: u16, out: &mut [u8]) -> Result<u
     let mut table = [0u16; FEW_TABLE_SLOTS];
     let mut sets = [0u64; FEW_NODES];
     schema::read_schema(schema, &mut table, &mut sets).map_err(|breach| breach.of(File::Schema))?;
+    let schema = Schema {
+        bytes: schema,
+        table: &table,
+    };
     let mut rows = [0u16; ROW_SLOTS * FEW_NODES];
-    inputs::read_in_force(schema, &table, p, a, b, &mut rows)?;
+    inputs::read_in_force(&schema, p, a, b, &mut rows)?;
+    let policies = Policies {
+        schema,
+        bytes: p,
+        rows: &rows,
+    };
     let mut eligible = [0u64; FEW_NODES];
     let mut bits = [0u32; MOST_VARIABLES * FEW_NODES];
-    in_force(
-        schema,
-        &table,
-        &sets,
-        p,
-        &rows,
-        &mut eligible,
-        &mut bits,
-        out,
-    )
+    in_force(&policies, &sets, &mut eligible, &mut bits, out)
 }
 
 // And for any schema.
@@ -143,20 +129,20 @@ fn with_most(schema: &[u8], p: &[u8], a: u16, b: u16, out: &mut [u8]) -> Result<
     let mut table = [0u16; TABLE_SLOTS];
     let mut sets = [0u64; MOST_NODES];
     schema::read_schema(schema, &mut table, &mut sets).map_err(|breach| breach.of(File::Schema))?;
+    let schema = Schema {
+        bytes: schema,
+        table: &table,
+    };
     let mut rows = [0u16; ROW_SLOTS * MOST_NODES];
-    inputs::read_in_force(schema, &table, p, a, b, &mut rows)?;
+    inputs::read_in_force(&schema, p, a, b, &mut rows)?;
+    let policies = Policies {
+        schema,
+        bytes: p,
+        rows: &rows,
+    };
     let mut eligible = [0u64; MOST_NODES];
     let mut bits = [0u32; MOST_VARIABLES * MOST_NODES];
-    in_force(
-        schema,
-        &table,
-        &sets,
-        p,
-        &rows,
-        &mut eligible,
-        &mut bits,
-        out,
-    )
+    in_force(&policies, &sets, &mut eligible, &mut bits, out)
 }
 
 // The instance for schema, policies and pass into the buffer, or a refusal; few nodes have short tables, which are sooner

@@ -1,13 +1,13 @@
 // The reader of what a PN says of its node: the ranks and conditions, field by field.
 #![tactic(auto, unfolding(fields::specs::Reading::part, fields::specs::Reading::field))]
 
-ghost use Rattle.std.specs.Prelude.{◌≡◌};
+ghost use Rattle.std.specs.Prelude.{◌≡◌, ◌<◌, length};
 ghost use Rattle.fields.specs.Answers.{as_end, end_of};
 ghost use Rattle.schema.specs.Schema.{schema_of, node_at};
-ghost use Rattle.schema.specs.Table.{NodeIn};
 ghost use Rattle.policies.specs.Policies.{ranks, condition, conditions, rule_of};
 
 use fields::{Breach, Fault};
+use nodes::Schema;
 use reading::read;
 use schema::Variable;
 
@@ -42,37 +42,23 @@ fn read_condition(b: &[u8], v: Variable, at: usize) -> Result<usize, Breach>
 
 // The conditions of node n's variables.
 #[tactic(auto, using(crate::proofs::Reader::conditions_bad, crate::proofs::Reader::conditions_more, crate::proofs::Reader::conditions_done))]
-fn read_conditions(
-    schema: &[u8],
-    table: &[u16],
-    n: usize,
-    b: &[u8],
-    from: usize,
-) -> Result<usize, Breach>
-    requires { NodeIn schema.now table.now n }
-    ensures { as_end result ≡ end_of (conditions b.now (node_at (schema_of schema.now) n).variables from) }
+fn read_conditions(schema: &Schema, n: usize, b: &[u8], from: usize) -> Result<usize, Breach>
+    requires { n < length (schema_of schema.now.bytes.now) }
+    ensures { as_end result ≡ end_of (conditions b.now (node_at (schema_of schema.now.bytes.now) n).variables from) }
 {
     let mut at = from;
-    for k in 0..nodes::variable_count(schema, table, n) {
-        let v = nodes::variable_of(schema, table, n, k);
-        at = read_condition(b, v, at)?;
+    for k in 0..schema.variable_count(n) {
+        at = read_condition(b, schema.variable(n, k), at)?;
     }
     Ok(at)
 }
 
 // The ranks and conditions of node n, field by field.
 #[tactic(auto, using(crate::proofs::Reader::fields_cut, crate::proofs::Reader::fields_rest))]
-pub fn read_fields(
-    schema: &[u8],
-    table: &[u16],
-    n: usize,
-    b: &[u8],
-    from: usize,
-) -> Result<usize, Breach>
-    requires { NodeIn schema.now table.now n }
-    ensures { as_end result ≡ end_of (rule_of b.now (node_at (schema_of schema.now) n) n from) }
+pub fn read_fields(schema: &Schema, n: usize, b: &[u8], from: usize) -> Result<usize, Breach>
+    requires { n < length (schema_of schema.now.bytes.now) }
+    ensures { as_end result ≡ end_of (rule_of b.now (node_at (schema_of schema.now.bytes.now) n) n from) }
 {
-    let k = nodes::rank_count(schema, table, n);
-    let at = read_ranks(b, k, from)?;
-    read_conditions(schema, table, n, b, at)
+    let at = read_ranks(b, schema.rank_count(n), from)?;
+    read_conditions(schema, n, b, at)
 }

@@ -108,7 +108,10 @@ pub view : (s : List ℕ) {g : List Node} → File s g → (n : ℕ) → n < len
 view s {g} f n h = node-back s (length g) n (node_place 3 g n) (rw (zero-add n) at (f.stands.each n h))
 
 -- what acceptance gives
-pub sound : (s : List ℕ) → Bytes s → 0 < length (schema_of s) → Sound (schema_of s)
-sound s b h =
+pub sound_of : (s : List ℕ) → 0 < length (schema_of s) → Sound (schema_of s)
+sound_of s h =
     let f = file-of s h in
-    record { some = f.some; few = f.few; nodes = λ n k. (view s f n k).sound b }
+    record { some = f.some; few = f.few; nodes = λ n k. (view s f n k).sound }
+
+pub sound : (s : List ℕ) → Bytes s → 0 < length (schema_of s) → Sound (schema_of s)
+sound s b h = sound_of s h

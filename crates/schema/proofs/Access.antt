@@ -1,25 +1,24 @@
--- What stands at the places that an accessor reads.
+-- What stands at the places that an accessor reads, in the table and in the file.
 -- Rests on the table's laws and on the view of a node's record.
 use mathlib.Core.Path.{◌≡◌, refl, ap, sym, subst, ◌∙◌}
 use mathlib.Core.Bool.{Bool, true, false, cond}
 use mathlib.Core.List.{List, [], ◌∷◌}
 use Prim.Native.Nat.{ℕ, zero, suc, ◌+◌, ◌*◌, ◌/◌, ◌%◌, ◌≤◌, ◌<◌}
 use native.Mathlib.Omega.{arith}
-use borrow.Author.Tests.{eq-eqb, ne_eqb}
+use borrow.Author.Tests.{eqb-true, eq-eqb, ne_eqb}
 use lib.Dec.{eqb}
 use lib.ListN.{length, get_or}
 use lib.IntN.{ℤ}
 use mir.Val.{to_z, of_z}
 use mir.Syntax.{w32}
-use Rattle.fields.specs.Reading.{got, be}
+use Rattle.fields.specs.Reading.{be}
 use Rattle.fields.proofs.Shorts.{short-is}
-use Rattle.fields.proofs.Bytes.{Bytes}
 use Rattle.schema.specs.Schema.{Node, schema_of, node_at, no_variable, is_number, variable}
 use Rattle.schema.specs.Layout.{rank_count, shape_of, Laid}
-use Rattle.schema.specs.Table.{variable_width, variables_width, body_of, node_width, Accepted, Tabled, NodeIn, AtMost, SuccessorIs}
+use Rattle.schema.specs.Table.{variable_width, variables_width, body_of, node_width, Accepted, Tabled, AtMost}
 use Rattle.schema.specs.declared.Variable.{Variable}
 use Rattle.schema.specs.declared.Variable.TheVariants.{Number, Listed}
-use Rattle.schema.proofs.Sound.{Rising, SoundNode}
+use Rattle.schema.proofs.Sound.{Rising}
 use Rattle.schema.proofs.Node.{OneNode, OneVariable, variable_place, variable-back, variables-back}
 use Rattle.schema.proofs.Accepted.{node_place, File, file-of, view}
 use Rattle.schema.proofs.Table.{Row, FewVariables, table-row}
@@ -61,110 +60,69 @@ few-each : (s : List ℕ) {g : List Node} → File s g → FewVariables g
 few-each s f = record { each = λ j h. (view s f j h).few-variables }
 
 -- the row of node n
-row_of : (s t : List ℕ) (n : ℕ) → NodeIn s t n → Row (node_at (schema_of s) n) n (node_place 3 (schema_of s) n) t
-row_of s t n h =
-    let f = file-of s (let z = h.below in omega arith) in
-    subst (Row (node_at (schema_of s) n) n (node_place 3 (schema_of s) n)) (sym h.table.filled) (table-row (length t) (schema_of s) n h.below (few-each s f) h.table.long)
+row_of : (s t : List ℕ) (n : ℕ) → Tabled s t → n < length (schema_of s) → Row (node_at (schema_of s) n) n (node_place 3 (schema_of s) n) t
+row_of s t n h l =
+    let f = file-of s (omega arith) in
+    subst (Row (node_at (schema_of s) n) n (node_place 3 (schema_of s) n)) (sym h.filled) (table-row (length t) (schema_of s) n l (few-each s f) h.long)
 
 -- what the reader of policies looks up
 pub laid : (s t : List ℕ) → Tabled s t → Laid (schema_of s) t
-laid s t h = record { long = h.long; each = λ n l. (row_of s t n (record { table = h; below = l })).laid }
+laid s t h = record { long = h.long; each = λ n l. (row_of s t n h l).laid }
+
+-- a node is one of the most that there may be
+pub node_small : (s : List ℕ) (n : ℕ) → n < length (schema_of s) → n < 64
+node_small s n l = let f = file-of s (omega arith) in omega (arith, f.few)
 
 -- node n's record, at the place that the table tells
-pub record Here (s t : List ℕ) (n : ℕ) (g : List Node) : Type 0 where
-  pub small : n < 64
-  pub one : OneNode s (length g) n (get_or t (16 * n) 0) (node_at g n) (get_or t (16 * n) 0 + node_width (node_at g n))
-
-record-at : (s t : List ℕ) (n : ℕ) → NodeIn s t n → get_or t (16 * n) 0 ≡ node_place 3 (schema_of s) n
-record-at s t n h =
-    let f = file-of s (let z = h.below in omega arith) in
+pub here : (s t : List ℕ) (n : ℕ) → Tabled s t → n < length (schema_of s)
+    → OneNode s (length (schema_of s)) n (get_or t (16 * n) 0) (node_at (schema_of s) n) (get_or t (16 * n) 0 + node_width (node_at (schema_of s) n))
+here s t n h l =
+    let f = file-of s (omega arith) in
     let z = node-near 3 (schema_of s) n (node_wide s f) in
-    (row_of s t n h).begins ∙ short-is (node_place 3 (schema_of s) n) (omega (arith, h.below, f.few))
+    let e : get_or t (16 * n) 0 ≡ node_place 3 (schema_of s) n = (row_of s t n h l).begins ∙ short-is (node_place 3 (schema_of s) n) (omega (arith, f.few)) in
+    let o = subst (λ (p : ℕ). OneNode s (length (schema_of s)) n p (node_at (schema_of s) n) (node_place 3 (schema_of s) (suc n))) (sym e) (view s f n l) in
+    subst (OneNode s (length (schema_of s)) n (get_or t (16 * n) 0) (node_at (schema_of s) n)) o.end o
 
-pub here : (s t : List ℕ) (n : ℕ) → NodeIn s t n → Here s t n (schema_of s)
-here s t n h =
-    let f = file-of s (let z = h.below in omega arith) in
-    let e = record-at s t n h in
-    let v = view s f n h.below in
-    let o = subst (λ (p : ℕ). OneNode s (length (schema_of s)) n p (node_at (schema_of s) n) (node_place 3 (schema_of s) (suc n))) (sym e) v in
-    record { small = omega (arith, h.below, f.few); one = subst (OneNode s (length (schema_of s)) n (get_or t (16 * n) 0) (node_at (schema_of s) n)) o.end o }
+-- a node's successors are above it and below the count
+pub successor_above : (s : List ℕ) (n j : ℕ) → n < length (schema_of s) → j < length (node_at (schema_of s) n).successors → n < get_or (node_at (schema_of s) n).successors j 0
+successor_above s n j l k = (rising-at n (length (schema_of s)) (node_at (schema_of s) n).successors j (view s (file-of s (omega arith)) n l).rising k).0
 
--- the places are inside the table and the file
-module _ (s t : List ℕ) (n : ℕ) where
-  pub node-small : NodeIn s t n → n < 64
-  node-small h = (here s t n h).small
+pub successor_below : (s : List ℕ) (n j : ℕ) → n < length (schema_of s) → j < length (node_at (schema_of s) n).successors
+    → get_or (node_at (schema_of s) n).successors j 0 < length (schema_of s)
+successor_below s n j l k = (rising-at n (length (schema_of s)) (node_at (schema_of s) n).successors j (view s (file-of s (omega arith)) n l).rising k).1
 
-  pub node-room : NodeIn s t n → 16 * n + 16 ≤ length t
-  node-room h = omega (arith, h.below, h.table.long)
+pub successors_few : (s : List ℕ) (n : ℕ) → n < length (schema_of s) → length (node_at (schema_of s) n).successors ≤ 8
+successors_few s n l = (view s (file-of s (omega arith)) n l).few-successors
 
-  pub node-inside : NodeIn s t n → get_or t (16 * n) 0 + body_of (node_at (schema_of s) n) ≤ length s
-  node-inside h = (here s t n h).one.inside
-
-  pub linked-at : NodeIn s t n → get_or s (get_or t (16 * n) 0 + 3) 0 ≡ length (node_at (schema_of s) n).successors
-  linked-at h = sym (here s t n h).one.linked
-
-pub ruleset places = (node-small, node-inside)
-
--- what an accessor returns
-module _ (s t : List ℕ) (n : ℕ) (h : NodeIn s t n) (b : Bytes s) where
-  sound-here : SoundNode (length (schema_of s)) n (node_at (schema_of s) n)
-  sound-here = (here s t n h).one.sound b
-
-  pub links-at : {r : ℕ} → r ≡ get_or s (get_or t (16 * n) 0 + 3) 0 → AtMost 8 (length (node_at (schema_of s) n).successors) r
-  links-at e = let z = linked-at s t n h in record { is = e ∙ z; most = omega (arith, sound-here.few) }
-
-  pub link_at : {r : ℕ} (j : ℕ) → j < length (node_at (schema_of s) n).successors → r ≡ get_or s (get_or t (16 * n) 0 + 4 + j) 0 → SuccessorIs (schema_of s) n j r
-  link_at j k e =
-      let z = (here s t n h).one.links j k in
-      let w = rising-at n (length (schema_of s)) (node_at (schema_of s) n).successors j sound-here.rising k in
-      record { is = e ∙ sym z; above = omega (arith, w.0); below = omega (arith, w.1) }
+pub variables_few : (s : List ℕ) (n : ℕ) → n < length (schema_of s) → length (node_at (schema_of s) n).variables ≤ 4
+variables_few s n l = (view s (file-of s (omega arith)) n l).few-variables
 
 -- how many ranks and variables a node has
-few-here : (s t : List ℕ) (n : ℕ) → NodeIn s t n → length (node_at (schema_of s) n).variables ≤ 4
-few-here s t n h = (here s t n h).one.few-variables
-
-pub ranks-few : (x : Node) → length x.successors ≤ 8 → rank_count x ≤ 8
+pub ranks_few : (x : Node) → length x.successors ≤ 8 → rank_count x ≤ 8
 unfolding rank_count
-ranks-few x h = go (eqb x.kind 1)
+ranks_few x h = go (eqb x.kind 1)
   where
     go : (b : Bool) → cond b (length x.successors) 0 ≤ 8
     go true = h
     go false = omega arith
 
-module _ (s t : List ℕ) (n : ℕ) (h : NodeIn s t n) where
+module _ (s t : List ℕ) (n : ℕ) (h : Tabled s t) (l : n < length (schema_of s)) where
   shape_is : get_or t (16 * n + 7) 0 ≡ rank_count (node_at (schema_of s) n) + 16 * length (node_at (schema_of s) n).variables
   unfolding shape_of
-  shape_is = ((laid s t h.table).each n h.below).shape
+  shape_is = ((laid s t h).each n l).shape
 
   few-ranks : rank_count (node_at (schema_of s) n) ≤ 8
-  few-ranks = ranks-few (node_at (schema_of s) n) (here s t n h).one.few-successors
+  few-ranks = ranks_few (node_at (schema_of s) n) (successors_few s n l)
 
-  pub variables-count : AtMost 4 (length (node_at (schema_of s) n).variables) (get_or t (16 * n + 7) 0 / 16)
-  variables-count =
-      let z : get_or t (16 * n + 7) 0 / 16 ≡ length (node_at (schema_of s) n).variables = omega (arith, shape_is, few-ranks) in
-      record { is = z; most = omega (arith, few-here s t n h) }
+  pub variables-count : {r : ℕ} → r ≡ get_or t (16 * n + 7) 0 → AtMost 4 (length (node_at (schema_of s) n).variables) (r / 16)
+  variables-count {r} e =
+      let z : r / 16 ≡ length (node_at (schema_of s) n).variables = omega (arith, shape_is, few-ranks) in
+      record { is = z; most = omega (arith, variables_few s n l) }
 
-  pub ranks-count : AtMost 8 (rank_count (node_at (schema_of s) n)) (get_or t (16 * n + 7) 0 % 16)
-  ranks-count =
-      let z : get_or t (16 * n + 7) 0 % 16 ≡ rank_count (node_at (schema_of s) n) = omega (arith, shape_is, few-ranks) in
+  pub ranks-count : {r : ℕ} → r ≡ get_or t (16 * n + 7) 0 → AtMost 8 (rank_count (node_at (schema_of s) n)) (r % 16)
+  ranks-count {r} e =
+      let z : r % 16 ≡ rank_count (node_at (schema_of s) n) = omega (arith, shape_is, few-ranks) in
       record { is = z; most = omega (arith, few-ranks) }
-
--- a variable, where the table tells that it begins
-pub variable-here : (s t : List ℕ) (n k : ℕ) → NodeIn s t n → k < length (node_at (schema_of s) n).variables
-    → (q : ℕ) × (variable s (get_or t (16 * n + 1 + k) 0) ≡ got (get_or (node_at (schema_of s) n).variables k no_variable) q)
-variable-here s t n k h l =
-    let f = file-of s (let z = h.below in omega arith) in
-    let o = view s f n h.below in
-    let v = variables-back s (length (node_at (schema_of s) n).variables) (node_place 3 (schema_of s) n + body_of (node_at (schema_of s) n)) o.vars in
-    let x = node_place 3 (schema_of s) n + body_of (node_at (schema_of s) n) in
-    let y = node-near 3 (schema_of s) n (node_wide s f) in
-    let z = variable-near x (node_at (schema_of s) n).variables k in
-    let b : variable_place x (node_at (schema_of s) n).variables k < 65536 = omega (arith, o.few-successors, o.few-variables, h.below, f.few) in
-    let e = (row_of s t n h).variable k l ∙ short-is (variable_place x (node_at (schema_of s) n).variables k) b in
-    (variable_place (node_place 3 (schema_of s) n + body_of (node_at (schema_of s) n)) (node_at (schema_of s) n).variables (suc k), ap (variable s) e ∙ v.each k l)
-
-pub variable-small : (s t : List ℕ) (n k : ℕ) → NodeIn s t n → k < length (node_at (schema_of s) n).variables → 16 * n + 1 + k < length t
-variable-small s t n k h l = omega (arith, few-here s t n h, h.below, h.table.long)
 
 -- the count
 pub count-inside : (s : List ℕ) → Accepted s → 2 < length s
@@ -173,20 +131,19 @@ count-inside s a = (file-of s a.some).inside
 pub count_at : (s : List ℕ) {r : ℕ} → Accepted s → r ≡ get_or s 2 0 → AtMost 64 (length (schema_of s)) r
 count_at s a e = let f = file-of s a.some in record { is = e ∙ sym f.count; most = omega (arith, f.few, f.count) }
 
+-- ---- a variable, where the table tells that it begins
+
 -- its type: the bytes of the variable at a place
 abbrev width_at : List ℕ → ℕ → ℕ
 width_at s p = cond (eqb (get_or s p 0) 0) 9 2
 
-type-inside : (s : List ℕ) (p : ℕ) {v : Variable} {q : ℕ} → variable s p ≡ got v q → p < length s
+type-inside : (s : List ℕ) (p : ℕ) {v : Variable} {q : ℕ} → OneVariable s p v q → p < length s
 unfolding variable_width
-type-inside s p {v} e = go v (variable-back s p e)
+type-inside s p {v} o = go v o
   where
     go : (v : Variable) {q : ℕ} → OneVariable s p v q → p < length s
     go (Number lo hi) o = omega (arith, o.end, o.inside)
     go (Listed size) o = omega (arith, o.end, o.inside)
-
-pub variable-inside : (s t : List ℕ) (n k : ℕ) → NodeIn s t n → k < length (node_at (schema_of s) n).variables → get_or t (16 * n + 1 + k) 0 < length s
-variable-inside s t n k h l = type-inside s (get_or t (16 * n + 1 + k) 0) (variable-here s t n k h l).1
 
 type-is : (s : List ℕ) (p : ℕ) (v : Variable) → cond (eqb (get_or s p 0) 0) 9 2 ≡ variable_width v → eqb (get_or s p 0) 0 ≡ is_number v
 unfolding variable_width
@@ -201,32 +158,53 @@ type-is s p (Listed size) e = go (eqb (get_or s p 0) 0) e
     go true e = absurd (omega arith)
     go false e = refl
 
-module _ (s t : List ℕ) (n k : ℕ) (h : NodeIn s t n) (l : k < length (node_at (schema_of s) n).variables) where
-  one-here : OneVariable s (get_or t (16 * n + 1 + k) 0) (get_or (node_at (schema_of s) n).variables k no_variable) (variable-here s t n k h l).0
-  one-here = variable-back s (get_or t (16 * n + 1 + k) 0) (variable-here s t n k h l).1
+module _ (s t : List ℕ) (n k : ℕ) (h : Tabled s t) (l : n < length (schema_of s)) (m : k < length (node_at (schema_of s) n).variables) where
+  pub variable-small : 16 * n + 1 + k < length t
+  variable-small = omega (arith, variables_few s n l, h.long)
 
-  type_at : eqb (get_or s (get_or t (16 * n + 1 + k) 0) 0) 0 ≡ is_number (get_or (node_at (schema_of s) n).variables k no_variable)
-  type_at = type-is s (get_or t (16 * n + 1 + k) 0) (get_or (node_at (schema_of s) n).variables k no_variable) one-here.type
+  place_is : get_or t (16 * n + 1 + k) 0 ≡ variable_place (node_place 3 (schema_of s) n + body_of (node_at (schema_of s) n)) (node_at (schema_of s) n).variables k
+  place_is =
+      let f = file-of s (omega arith) in
+      let o = view s f n l in
+      let x = node_place 3 (schema_of s) n + body_of (node_at (schema_of s) n) in
+      let y = node-near 3 (schema_of s) n (node_wide s f) in
+      let z = variable-near x (node_at (schema_of s) n).variables k in
+      let b : variable_place x (node_at (schema_of s) n).variables k < 65536 = omega (arith, o.few-successors, o.few-variables, f.few) in
+      (row_of s t n h l).variable k m ∙ short-is (variable_place x (node_at (schema_of s) n).variables k) b
 
-  wide_at : get_or t (16 * n + 1 + k) 0 + width_at s (get_or t (16 * n + 1 + k) 0) ≤ length s
-  wide_at = omega (arith, one-here.end, one-here.inside, one-here.type)
+  module _ {p : ℕ} (e : p ≡ get_or t (16 * n + 1 + k) 0) where
+    pub one-variable : (q : ℕ) × OneVariable s p (get_or (node_at (schema_of s) n).variables k no_variable) q
+    one-variable =
+        let x = node_place 3 (schema_of s) n + body_of (node_at (schema_of s) n) in
+        let o = view s (file-of s (omega arith)) n l in
+        let v = variables-back s (length (node_at (schema_of s) n).variables) x o.vars in
+        (variable_place x (node_at (schema_of s) n).variables (suc k), variable-back s p (ap (variable s) (e ∙ place_is) ∙ v.each k m))
 
-  module _ (e : get_or s (get_or t (16 * n + 1 + k) 0) 0 ≡ 0) where
-    pub number-inside : get_or t (16 * n + 1 + k) 0 + 9 ≤ length s
-    number-inside = rw (eq-eqb (get_or s (get_or t (16 * n + 1 + k) 0) 0) 0 e) at wide_at
+    pub variable-inside : p < length s
+    variable-inside = type-inside s p one-variable.1
 
-    pub number_at : (lo hi : ℤ) → of_z w32 lo ≡ be 4 s (get_or t (16 * n + 1 + k) 0 + 1) → of_z w32 hi ≡ be 4 s (get_or t (16 * n + 1 + k) 0 + 5)
-        → Number (to_z w32 (of_z w32 lo)) (to_z w32 (of_z w32 hi)) ≡ get_or (node_at (schema_of s) n).variables k no_variable
-    number_at lo hi a b =
-        let z = rw (eq-eqb (get_or s (get_or t (16 * n + 1 + k) 0) 0) 0 e) at one-here.is in
-        rw (a, b) (sym z)
+    type_at : eqb (get_or s p 0) 0 ≡ is_number (get_or (node_at (schema_of s) n).variables k no_variable)
+    type_at = type-is s p (get_or (node_at (schema_of s) n).variables k no_variable) one-variable.1.type
 
-  module _ (e : get_or s (get_or t (16 * n + 1 + k) 0) 0 ≡ 0 → ⊥) where
-    pub number-no : false ≡ is_number (get_or (node_at (schema_of s) n).variables k no_variable)
-    number-no = sym (ne_eqb (get_or s (get_or t (16 * n + 1 + k) 0) 0) 0 e) ∙ type_at
+    wide_at : p + width_at s p ≤ length s
+    wide_at = let o = one-variable.1 in omega (arith, o.end, o.inside, o.type)
 
-    pub listed-inside : get_or t (16 * n + 1 + k) 0 + 2 ≤ length s
-    listed-inside = rw (ne_eqb (get_or s (get_or t (16 * n + 1 + k) 0) 0) 0 e) at wide_at
+    pub type-zero : is_number (get_or (node_at (schema_of s) n).variables k no_variable) ≡ true → get_or s p 0 ≡ 0
+    type-zero q = eqb-true (get_or s p 0) 0 (type_at ∙ q)
 
-    pub listed_at : Listed (get_or s (get_or t (16 * n + 1 + k) 0 + 1) 0) ≡ get_or (node_at (schema_of s) n).variables k no_variable
-    listed_at = sym (rw (ne_eqb (get_or s (get_or t (16 * n + 1 + k) 0) 0) 0 e) at one-here.is)
+    module _ (z : get_or s p 0 ≡ 0) where
+      pub number-inside : p + 9 ≤ length s
+      number-inside = rw (eq-eqb (get_or s p 0) 0 z) at wide_at
+
+      pub number_at : (lo hi : ℤ) → of_z w32 lo ≡ be 4 s (p + 1) → of_z w32 hi ≡ be 4 s (p + 5)
+          → Number (to_z w32 (of_z w32 lo)) (to_z w32 (of_z w32 hi)) ≡ get_or (node_at (schema_of s) n).variables k no_variable
+      number_at lo hi a b =
+          let y = rw (eq-eqb (get_or s p 0) 0 z) at one-variable.1.is in
+          rw (a, b) (sym y)
+
+    module _ (z : get_or s p 0 ≡ 0 → ⊥) where
+      pub listed-inside : p + 2 ≤ length s
+      listed-inside = rw (ne_eqb (get_or s p 0) 0 z) at wide_at
+
+      pub listed_at : Listed (get_or s (p + 1) 0) ≡ get_or (node_at (schema_of s) n).variables k no_variable
+      listed_at = sym (rw (ne_eqb (get_or s p 0) 0 z) at one-variable.1.is)

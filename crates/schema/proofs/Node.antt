@@ -4,20 +4,19 @@ use mathlib.Core.Path.{◌≡◌, refl, ap, sym, subst, ◌∙◌}
 use mathlib.Core.Logic.{◌⊎◌, inl, inr}
 use mathlib.Core.Bool.{Bool, true, false, cond, ◌&&◌, ◌||◌}
 use mathlib.Core.List.{List, [], ◌∷◌}
-use Prim.Native.Nat.{ℕ, zero, suc, ◌+◌, ◌≤◌, ◌<◌}
+use Prim.Native.Nat.{ℕ, zero, suc, ◌+◌, ◌-◌, ◌^◌, ◌≤◌, ◌<◌}
 use native.Mathlib.Omega.{arith}
 use native.Mathlib.Nat.{add-zero}
-use borrow.Author.Tests.{leb-true, ltb-true, eqb-true}
+use borrow.Author.Tests.{leb-true, ltb-true, ltb-false, eqb-true}
 use lib.Dec.{leb, ltb, eqb}
 use lib.ListN.{length, get_or}
-use lib.Signed.{le_z}
-use mir.Val.{Fits}
-use mir.ValLaws.{to_z-Fits}
+use lib.IntN.{pos, negsuc}
+use lib.Signed.{le_z, mag}
+use mir.Val.{SFits, sel}
 use mir.Syntax.{w32}
 use Rattle.fields.specs.Reading.{Got, got, be, field, many, signed}
 use Rattle.fields.proofs.Tests.{and-true, or-true}
 use Rattle.fields.proofs.Back.{went, Took, field_back, any-back, after-mark, many-back, many-none, be1}
-use Rattle.fields.proofs.Bytes.{Bytes, be-below}
 use Rattle.schema.specs.Schema.{Node, SN, number, listed, variable, variables, variables_of, successors, links, node, no_variable}
 use Rattle.schema.specs.Table.{variable_width, variables_width, body_of, node_width}
 use Rattle.schema.specs.declared.Variable.{Variable}
@@ -76,18 +75,23 @@ links-back s count own k p e = links-from s count own k p e
 pub record OneVariable (s : List ℕ) (p : ℕ) (v : Variable) (q : ℕ) : Type 0 where
   pub end : q ≡ p + variable_width v
   pub inside : q ≤ length s
-  pub sound : Bytes s → SoundVariable v
+  pub sound : SoundVariable v
   pub type : cond (eqb (get_or s p 0) 0) 9 2 ≡ variable_width v
   pub is : v ≡ cond (eqb (get_or s p 0) 0) (Number (signed (be 4 s (p + 1))) (signed (be 4 s (p + 5)))) (Listed (get_or s (p + 1) 0))
 
-word_fits : (s : List ℕ) (p : ℕ) → Bytes s → Fits w32 (be 4 s p)
-word_fits s p b = record { fits = be-below 4 s p b }
+-- any word is a number of 32 bits as a signed one, whatever stands in the file
+signed-fits : (u : ℕ) → SFits w32 (signed u)
+signed-fits u = record { sfits = go (ltb u (2 ^ 31)) refl }
+  where
+    go : (b : Bool) → ltb u (2 ^ 31) ≡ b → mag (sel b (pos u) (negsuc (2 ^ 32 - suc u))) < 2 ^ 31
+    go true t = ltb-true u (2 ^ 31) t
+    go false t = let z = ltb-false u (2 ^ 31) t in omega arith
 
 record Rest (s : List ℕ) (p n : ℕ) (v w : Variable) (q : ℕ) : Type 0 where
   end : q ≡ p + n
   inside : q ≤ length s
   wide : variable_width v ≡ n + 1
-  sound : Bytes s → SoundVariable v
+  sound : SoundVariable v
   is : v ≡ w
 
 number-back : (s : List ℕ) (p : ℕ) {v : Variable} {q : ℕ} → number s p ≡ got v q → Rest s p 8 v (Number (signed (be 4 s p)) (signed (be 4 s (p + 4)))) q
@@ -102,7 +106,7 @@ number-back s p {v} {q} e =
       end = omega arith;
       inside = omega (arith, h.inside);
       wide = refl;
-      sound = λ b. (to_z-Fits w32 (be 4 s p) (word_fits s p b), to_z-Fits w32 (be 4 s (p + 4)) (word_fits s (p + 4) b), h.rule-met);
+      sound = (signed-fits (be 4 s p), signed-fits (be 4 s (p + 4)), h.rule-met);
       is = refl;
     })
 
@@ -118,7 +122,7 @@ listed_back s p {v} {q} e =
       end = omega arith;
       inside = omega (arith, h.inside);
       wide = refl;
-      sound = λ b. (ltb-true 0 (be 1 s p) r.0, leb-true (be 1 s p) 32 r.1);
+      sound = (ltb-true 0 (be 1 s p) r.0, leb-true (be 1 s p) 32 r.1);
       is = refl;
     })
 
@@ -151,7 +155,7 @@ pub record Variables (s : List ℕ) (k p : ℕ) (vs : List Variable) (q : ℕ) :
   pub end : q ≡ p + variables_width vs
   pub inside : p ≤ length s → q ≤ length s
   pub size : length vs ≡ k
-  pub sound : Bytes s → SoundVariables vs
+  pub sound : SoundVariables vs
   pub each : (j : ℕ) → j < k → variable s (variable_place p vs j) ≡ got (get_or vs j no_variable) (variable_place p vs (suc j))
 
 variables-cons : (s : List ℕ) (k p : ℕ) {v : Variable} {m : ℕ} {vs ws : List Variable} {q : ℕ} → variable s p ≡ got v m → OneVariable s p v m → ws ≡ v ∷ vs
@@ -162,7 +166,7 @@ variables-cons s k p {v} {m} {vs} here o e l =
       end = omega (arith, l.end, o.end);
       inside = λ h. l.inside o.inside;
       size = ap suc l.size;
-      sound = λ b. (o.sound b, l.sound b);
+      sound = (o.sound, l.sound);
       each = at;
     })
   where
@@ -174,7 +178,7 @@ variables-from : (s : List ℕ) (k p : ℕ) {vs : List Variable} {q : ℕ} → m
 unfolding variables_width
 variables-from s zero p {vs} {q} e =
     let h = many-none {S = ℕ} (λ _ p. variable s p) (λ i _. i) 0 p e in
-    rw h.0 (record { end = omega (arith, h.1); inside = λ y. omega (arith, h.1); size = refl; sound = λ b. tt; each = λ j y. absurd (omega arith) })
+    rw h.0 (record { end = omega (arith, h.1); inside = λ y. omega (arith, h.1); size = refl; sound = tt; each = λ j y. absurd (omega arith) })
 variables-from s (suc k) p e =
     let t = many-back {S = ℕ} (λ _ p. variable s p) (λ i _. i) k 0 p e in
     variables-cons s k p t.here (variable-back s p t.here) t.is (variables-from s k t.middle t.rest)
@@ -193,9 +197,10 @@ pub record OneNode (s : List ℕ) (count own p : ℕ) (x : Node) (q : ℕ) : Typ
   pub vars : variables s (length x.variables) (p + body_of x) ≡ got x.variables q
   pub few-successors : length x.successors ≤ 8
   pub few-variables : length x.variables ≤ 4
+  pub rising : Rising own count x.successors
   pub end : q ≡ p + node_width x
   pub inside : p + body_of x ≤ length s
-  pub sound : Bytes s → SoundNode count own x
+  pub sound : SoundNode count own x
 
 -- what the parts of a record tell, the marks and counts taken off
 made : (s : List ℕ) (count own p : ℕ) {k : ℕ} {xs : List ℕ} {vs : List Variable} {m q : ℕ}
@@ -216,15 +221,16 @@ made s count own p {k} {xs} {vs} {m} {q} ek k1 c8 c1 l i v4 e =
       vars = ap (λ (n : ℕ). variables s n (p + (5 + length xs))) v.size ∙ ap (variables s (get_or s m 0)) (sym eb) ∙ e;
       few-successors = omega (arith, l.size);
       few-variables = omega (arith, v.size);
+      rising = l.rising;
       end = omega (arith, v.end);
       inside = omega arith;
-      sound = λ b. record {
+      sound = record {
         kind-most = k1;
         some = λ z. let y = c1 z in omega (arith, l.size);
         few = omega (arith, l.size);
         rising = l.rising;
         few-variables = omega (arith, v.size);
-        variables = v.sound b;
+        variables = v.sound;
       };
     }
 

@@ -121,26 +121,10 @@ pub record YieldsSchema (s : List ℕ) (r : Result ℕ Breach) (t u : List ℕ) 
   pub tabled : Accepted s → Tabled s t
   pub sets : Accepted s → SetsIn s u
 
--- t is the table of the file s, which has so many nodes
-pub record SchemaIn (s t : List ℕ) (count : ℕ) : Type 0 where
-  pub table : Tabled s t
-  pub counted : count ≡ length (schema_of s)
-
--- t is the table of the file s, and n one of its nodes
-pub record NodeIn (s t : List ℕ) (n : ℕ) : Type 0 where
-  pub table : Tabled s t
-  pub below : n < length (schema_of s)
-
 -- r is x, which is at most m
 pub record AtMost (m x r : ℕ) : Type 0 where
   pub is : r ≡ x
   pub most : r ≤ m
-
--- r is successor j of node n
-pub record SuccessorIs (g : List Node) (n j r : ℕ) : Type 0 where
-  pub is : r ≡ get_or (node_at g n).successors j 0
-  pub above : n < r
-  pub below : r < length g
 
 -- ---- for the contracts of functions that only their own crate calls
 

@@ -15,11 +15,11 @@ use Rattle.fields.proofs.Bytes.{Bytes, spell-length}
 use Rattle.fields.proofs.Putting.{Putting, putting-init, putting-step, putting-exit, wrote_then, wrote-before}
 use Rattle.numbers.specs.Bits.{turned}
 use Rattle.schema.specs.Schema.{Node, schema_of, node_at, no_variable}
-use Rattle.schema.specs.Table.{Accepted, NodeIn, AtMost}
+use Rattle.schema.specs.Table.{Accepted, AtMost}
 use Rattle.schema.specs.declared.Variable.{Variable}
 use Rattle.schema.specs.declared.Variable.TheVariants.{Number, Listed}
 use Rattle.schema.proofs.Accepted.{sound}
-use Rattle.schema.proofs.Access.{node-small}
+use Rattle.schema.proofs.Access.{node_small}
 use Rattle.instances.specs.Instance.{Entry}
 use Rattle.instances.specs.File.{IH, IN, value_width, values_width, value_of, encode_value, encode_values, encode_entry, encode_entries, encode}
 use Rattle.instances.specs.Plan.{planned, values_from, plan_of, held}
@@ -27,7 +27,7 @@ use Rattle.instances.proofs.Lengths.{width-number, width-listed}
 use Rattle.instances.proofs.Planned.{from-few}
 use Rattle.instances.proofs.Entries.{values_bytes, values_length, entries-length, head-length}
 use Rattle.instances.proofs.Walk.{Walk, AtNode, AtEnd, walk-exit, walk_first, walk-holds, walk_step}
-use Rattle.instances.proofs.Node.{vars-more}
+use Rattle.instances.proofs.Node.{vars_more}
 
 -- ---- a value
 
@@ -71,7 +71,7 @@ module _ (x : Node) (bits : List ℕ) (n k : ℕ) (b₀ : List ℕ) (from : ℕ)
         w.long,
         values_length x.variables bits (4 * n),
         values_length (drop k x.variables) bits (4 * n + k),
-        ap values_width (vars-more x k l h e),
+        ap values_width (vars_more x k l h e),
       )
 
   pub values_step : {v : Variable} {d : List ℕ} {r : ℕ} → k < c → from + values_width x.variables ≤ length b₀ → v ≡ get_or x.variables k no_variable
@@ -80,7 +80,7 @@ module _ (x : Node) (bits : List ℕ) (n k : ℕ) (b₀ : List ℕ) (from : ℕ)
   values_step {v} {d} {r} h y e q z =
       let j : 4 * n + k + 1 ≡ 4 * n + (k + 1) = omega arith in
       let this = encode_value v (value_of v (get_or bits (4 * n + k) 0)) in
-      let t = subst (λ (vs : List Variable). Putting b₀ from (values_bytes x.variables bits (4 * n)) b at (values_bytes vs bits (4 * n + k))) (vars-more x k l h e) w in
+      let t = subst (λ (vs : List Variable). Putting b₀ from (values_bytes x.variables bits (4 * n)) b at (values_bytes vs bits (4 * n + k))) (vars_more x k l h e) w in
       subst (λ (m : ℕ). Putting b₀ from (values_bytes x.variables bits (4 * n)) d r (values_bytes (drop (k + 1) x.variables) bits m)) j
       (putting-step this (values_bytes (drop (k + 1) x.variables) bits (4 * n + k + 1)) t (let a = values_room h e y in omega arith) q z)
 
@@ -92,9 +92,8 @@ module _ (x : Node) (bits : List ℕ) (n k : ℕ) (b₀ : List ℕ) (from : ℕ)
 
 -- ---- an entry
 
-module _ (s t : List ℕ) (n : ℕ) (i : NodeIn s t n) where
-  pub node_fits : Fits w8 n
-  node_fits = let z = node-small s t n i in record { fits = omega arith }
+pub node_fits : (s : List ℕ) (n : ℕ) → n < length (schema_of s) → Fits w8 n
+node_fits s n i = let z = node_small s n i in record { fits = omega arith }
 
 pub entry_wrote : (g : List Node) (choices bits b : List ℕ) (n from : ℕ) {c₁ c₂ c₃ d : List ℕ} {r : ℕ} → from + 4 + values_width (node_at g n).variables ≤ length b → c₁ ≡ put b from IN → c₂ ≡ put c₁ (from + 2) (spell 1 n)
     → c₃ ≡ put c₂ (from + 3) (spell 1 (get_or choices n 0)) → Wrote c₃ (from + 4) (values_bytes (node_at g n).variables bits (4 * n)) d r

@@ -7,7 +7,7 @@ use Rattle.checker.proofs.Entries.{JudgingEntries}
 use Rattle.checker.proofs.first_forbidden.Given as goal
 
 abbrev pub invariant-loop-left : goal.invariant-loop-left
-invariant-loop-left l = Walk l.schema l.choices l.bits (JudgingEntries l.schema l.choices l.bits (noted (schema_of l.schema) l.p l.rows) l.at) l.left
+invariant-loop-left l = Walk l.policies.schema.bytes.now l.choices l.bits (JudgingEntries l.policies.schema.bytes.now l.choices l.bits (noted (schema_of l.policies.schema.bytes.now) l.policies.bytes.now l.policies.rows.now) l.at) l.left
 
 abbrev pub decreases-loop-left : goal.decreases-loop-left
 decreases-loop-left l = cardinality l.left

@@ -3,8 +3,8 @@
 use Rattle.inputs.proofs.Above.{in_force_noted, in_force_checked}
 use Rattle.checker.proofs.with_rows.Goals as goal
 
-pub in_force-requires-clause-noted : goal.in_force-requires-clause-noted
-in_force-requires-clause-noted c = in_force_noted _ _ _ _ _ c.in_ok-read_in_force.ensures
+pub invariant_of-policies : goal.invariant_of-policies
+invariant_of-policies c = record { noted = in_force_noted _ _ _ _ _ c.in_ok-read_in_force.ensures }
 
 pub returns : goal.returns
 returns c = in_force_checked _ _ _ _ _ c.in_ok-read_in_force.ensures _ c.in_force.ensures

@@ -5,7 +5,7 @@ use Rattle.columns.proofs.Lines.{PuttingLines}
 use Rattle.columns.proofs.put_sheet.Given as goal
 
 abbrev pub invariant-loop-left : goal.invariant-loop-left
-invariant-loop-left l = Walk l.schema l.choices l.bits (PuttingLines l.schema l.choices l.bits l.initial.out l.at l.out) l.left
+invariant-loop-left l = Walk l.schema.bytes.now l.choices l.bits (PuttingLines l.schema.bytes.now l.choices l.bits l.initial.out l.at l.out) l.left
 
 abbrev pub decreases-loop-left : goal.decreases-loop-left
 decreases-loop-left l = cardinality l.left

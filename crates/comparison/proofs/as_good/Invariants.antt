@@ -4,4 +4,4 @@ use Rattle.comparison.proofs.Flagging.{Flagging}
 use Rattle.comparison.proofs.as_good.Given as goal
 
 abbrev pub invariant-loop-n : goal.invariant-loop-n
-invariant-loop-n l = Flagging l.schema l.p l.rows l.first l.second l.flags l.n
+invariant-loop-n l = Flagging l.policies.schema.bytes.now l.policies.bytes.now l.policies.rows.now l.first l.second l.flags l.n

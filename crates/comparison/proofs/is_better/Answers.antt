@@ -1,7 +1,7 @@
 -- Where the ranks are alike the lower number is better.
 -- Rests on the laws of compared ranks, in Better.
-use Rattle.comparison.proofs.Better.{ranks_alike}
+use Rattle.comparison.proofs.Better.{ranks_equal}
 use Rattle.comparison.proofs.is_better.Goals as goal
 
-pub returns-in-Alike : goal.returns-in-Alike
-returns-in-Alike c = search ranks_alike
+pub returns-in-Equal : goal.returns-in-Equal
+returns-in-Equal c = search ranks_equal

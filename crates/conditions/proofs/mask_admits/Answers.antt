@@ -1,10 +1,7 @@
 -- A mask has no bit beyond 32.
--- Rests on the laws of one condition, in Admitting.
-use Rattle.conditions.proofs.Admitting.{mask-bit, mask-beyond}
+-- Rests on the law of one condition, in Admitting.
+use Rattle.conditions.proofs.Admitting.{mask_beyond}
 use Rattle.conditions.proofs.mask_admits.Goals as goal
 
-pub returns-then-x-lt32 : goal.returns-then-x-lt32
-returns-then-x-lt32 c = search mask-bit
-
-pub returns : goal.returns
-returns c = search mask-beyond
+pub returns-else-x-lt32 : goal.returns-else-x-lt32
+returns-else-x-lt32 c = search mask_beyond

@@ -1,13 +1,11 @@
--- The offsets from here on are left.
-use Prim.Native.Nat.{◌-◌}
+-- The conditions from this offset on are left.
+-- Rests on nothing.
+use lib.ListN.{drop}
+use mathlib.Core.Path.{◌≡◌}
 use Rattle.numbers.specs.Bits.{ones}
 use Rattle.policies.specs.Policies.{mask}
-use Rattle.conditions.specs.Rules.{mask_at}
-use Rattle.conditions.proofs.Narrowing.{Narrowing}
+use Rattle.conditions.specs.Rules.{mask_at, narrowed_by}
 use Rattle.conditions.proofs.narrow_mask.Given as goal
 
-abbrev pub invariant-loop-r : goal.invariant-loop-r
-invariant-loop-r l = Narrowing (mask_at l.p l.skip) l.count l.offsets (mask (ones l.size)) l.r (mask l.m)
-
-abbrev pub decreases-loop-r : goal.decreases-loop-r
-decreases-loop-r l = l.count - l.r
+abbrev pub invariant-loop-at : goal.invariant-loop-at
+invariant-loop-at l = narrowed_by (mask_at l.p l.skip) (drop l.at-index l.offsets) (mask l.mask) ≡ narrowed_by (mask_at l.p l.skip) l.offsets (mask (ones l.size))

@@ -1,12 +1,10 @@
--- The offsets from here on are left.
-use Prim.Native.Nat.{◌-◌}
+-- The conditions from this offset on are left.
+-- Rests on nothing.
+use lib.ListN.{drop}
+use mathlib.Core.Path.{◌≡◌}
 use Rattle.policies.specs.Policies.{range}
-use Rattle.conditions.specs.Rules.{range_at}
-use Rattle.conditions.proofs.Narrowing.{Narrowing}
+use Rattle.conditions.specs.Rules.{range_at, narrowed_by}
 use Rattle.conditions.proofs.narrow_range.Given as goal
 
-abbrev pub invariant-loop-r : goal.invariant-loop-r
-invariant-loop-r l = Narrowing (range_at l.p l.skip) l.count l.offsets (range l.initial.x.lo l.initial.x.hi) l.r (range l.x.lo l.x.hi)
-
-abbrev pub decreases-loop-r : goal.decreases-loop-r
-decreases-loop-r l = l.count - l.r
+abbrev pub invariant-loop-at : goal.invariant-loop-at
+invariant-loop-at l = narrowed_by (range_at l.p l.skip) (drop l.at-index l.offsets) (range l.x.lo l.x.hi) ≡ narrowed_by (range_at l.p l.skip) l.offsets (range l.fn.start.lo l.fn.start.hi)

@@ -5,4 +5,4 @@ use Rattle.copying.proofs.Copying.{copied}
 use Rattle.copying.proofs.with_schema.Goals as goal
 
 pub returns : goal.returns
-returns c = copied _ _ _ _ _ c.read_instance.ensures (mapped_ok _ c.in_ok-map_err.ensures.cases) c.type_inv.s c.deliver.ensures
+returns c = copied _ _ _ _ _ c.read_instance-read.ensures (mapped_ok _ c.in_ok-map_err.ensures.cases) c.type_inv.s c.deliver.ensures

@@ -9,7 +9,7 @@ pub returns-in_err-visit : goal.returns-in_err-visit
 returns-in_err-visit c = (search rules) ∙ going_bad _ _ _ _ _ _ _ _ _ _ c.loop-turn.invariant c.loop-turn-test.true c.in_err-visit.ensures
 
 pub loop-turn-preserved : goal.loop-turn-preserved
-loop-turn-preserved c = going_step _ _ _ _ _ _ _ _ _ _ c.loop-turn.invariant c.loop-turn-test.true c.requires.accepted c.type_inv.schema c.in_ok-visit.ensures c.with-nodes.ensures (search rules)
+loop-turn-preserved c = going_step _ _ _ _ _ _ _ _ _ _ c.loop-turn.invariant c.loop-turn-test.true c.args.schema.now.accepted c.args.schema.now.bytes_fit c.in_ok-visit.ensures c.with-nodes.ensures (search rules)
 
 pub returns-then-due-eq0 : goal.returns-then-due-eq0
 returns-then-due-eq0 c = search going_exit

@@ -20,4 +20,4 @@ pub returns-then-end-s : goal.returns-then-end-s
 returns-then-end-s c = yields_none _ _ _ _ (search rules) (instance_spare _ _ c.in_ok-at.ensures c.in_ok-m.ensures _ _ c.in_ok-nodes.ensures c.if-end-s.true)
 
 pub returns : goal.returns
-returns c = instance_read _ _ _ _ _ _ c.in_ok-at.ensures c.in_ok-m.ensures c.in_ok-nodes.ensures c.requires.choices_value c.requires.bits_room c.requires.accepted c.type_inv.schema c.type_inv.s c.if-end-s.false
+returns c = instance_read _ _ _ _ _ _ c.in_ok-at.ensures c.in_ok-m.ensures c.in_ok-nodes.ensures c.requires.choices_value c.requires.bits_room c.args.schema.now.accepted c.args.schema.now.bytes_fit c.type_inv.s c.if-end-s.false

@@ -9,4 +9,4 @@ use Rattle.instance_reader.proofs.Reader.{ReadingValues}
 use Rattle.instance_reader.proofs.read_values.Given as goal
 
 abbrev pub invariant-loop-k : goal.invariant-loop-k
-invariant-loop-k l = ReadingValues l.schema l.s l.n l.initial.bits (run_of (fill_values (node_at (schema_of l.schema) l.n).variables (4 * l.n)) (values l.s (node_at (schema_of l.schema) l.n).variables l.from) l.initial.bits) l.k l.at l.bits
+invariant-loop-k l = ReadingValues l.schema.bytes.now l.s l.n l.initial.bits (run_of (fill_values (node_at (schema_of l.schema.bytes.now) l.n).variables (4 * l.n)) (values l.s (node_at (schema_of l.schema.bytes.now) l.n).variables l.from) l.initial.bits) l.k l.at l.bits

@@ -1,17 +1,17 @@
 -- What was summed and the widths from variable k on make the whole.
--- Rests on what the schema's accessors answer.
+-- Rests on what the schema's methods answer.
 use borrow.Author.Rules.{rules}
-use Rattle.lookup.proofs.Lookup.{summed-init, summed-step, summed-fits, summed-exit}
+use Rattle.lookup.proofs.Lookup.{summed_init, summed_step, summed_fits, summed_exit}
 use Rattle.lookup.proofs.values_width.Goals as goal
 
 pub loop-k-init : goal.loop-k-init
-loop-k-init c = search (summed-init, rules)
+loop-k-init c = search summed_init
 
-pub overflow_add-r : goal.overflow_add-r
-overflow_add-r c = search summed-fits
+pub overflow_add-width : goal.overflow_add-width
+overflow_add-width c = search (summed_fits, rules)
 
 pub loop-k-preserved : goal.loop-k-preserved
-loop-k-preserved c = search (summed-step, rules)
+loop-k-preserved c = search (summed_step, rules)
 
 pub returns : goal.returns
-returns c = search summed-exit
+returns c = search summed_exit

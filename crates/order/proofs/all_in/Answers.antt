@@ -1,17 +1,19 @@
--- Whether those from here on are in the set is whether all are.
--- Rests on the laws of the loop, in Successors.
-use Rattle.order.proofs.Successors.{successor-small, all-no, all-on, all_done}
-use borrow.Author.Rules.{rules}
+-- The method tells whether each is in the set.
+-- Rests on all_every, and on the bound of a successor.
+use Rattle.std.proofs.Common.{rules, tests}
+use Rattle.std.proofs.lemmas.Iterator.{YieldsList-from_slice}
+use Rattle.std.proofs.lemmas.Iterator.Adapters.{serves_from_places}
+use Rattle.std.proofs.lemmas.Iterator.Search.{all_from_yields_List}
+use Rattle.order.specs.Order.{in_set}
+use Rattle.order.proofs.Successors.{all_every, successors_low}
 use Rattle.order.proofs.all_in.Goals as goal
 
-pub bounds-nodes-x : goal.bounds-nodes-x
-bounds-nodes-x c = search (successor-small, rules)
-
-pub returns-then-nodes-x-ne1 : goal.returns-then-nodes-x-ne1
-returns-then-nodes-x-ne1 c = search all-no
-
-pub loop-j-preserved : goal.loop-j-preserved
-loop-j-preserved c = search all-on
+pub all-requires-clause-callable : goal.all-requires-clause-callable
+all-requires-clause-callable c =
+    serves_from_places (YieldsList-from_slice c.successors.result.now (search rules)) (λ x q h. search rules)
+    (λ x k h e. search (rules, successors_low c.args.schema.now c.args.n c.requires c.successors.ensures k x.now h e))
 
 pub returns : goal.returns
-returns c = search all_done
+returns c =
+    all_every c.args.schema.now c.args.n c.requires c.args.nodes.now c.successors.ensures
+    (all_from_yields_List (in_set c.args.nodes.now) _ _ _ c.all.ensures.ran (YieldsList-from_slice c.successors.result.now (search rules)) (λ x b q k. search (rules, tests)))

@@ -1,16 +1,14 @@
--- The successors from here on are left to compare.
--- Rests on the laws of the search, in Successors.
-use Rattle.order.proofs.Successors.{seeking-none, seeking-found, seeking-more, seeking-done}
+-- The method tells the first place at which x stands.
+-- Rests on column_found.
+use Rattle.std.proofs.Common.{rules, tests}
+use lib.Dec.{eqb}
+use Rattle.std.proofs.lemmas.Iterator.{YieldsList-from_slice}
+use Rattle.std.proofs.lemmas.Iterator.Search.{position_from_yields_List}
+use Rattle.order.proofs.Successors.{column_found}
 use Rattle.order.proofs.column_of.Goals as goal
 
-pub loop-j-init : goal.loop-j-init
-loop-j-init c = search seeking-none
-
-pub returns-then-successor_of-x : goal.returns-then-successor_of-x
-returns-then-successor_of-x c = search seeking-found
-
-pub loop-j-preserved : goal.loop-j-preserved
-loop-j-preserved c = search seeking-more
-
 pub returns : goal.returns
-returns c = search seeking-done
+returns c =
+    column_found c.args.schema.now c.args.n c.requires c.args.x c.successors-successors.ensures
+    (position_from_yields_List (λ s. eqb s c.args.x) _ _ _ c.position.ensures.ran (YieldsList-from_slice c.successors-successors.result.now (search rules)) (λ x b q k. search (rules, tests)))
+    c.unwrap_or.ensures

@@ -1,17 +1,12 @@
--- The first so far is in the set, and none of the columns passed that is in it beats it.
+-- A column of the set takes the place of one that it is better than; another leaves it.
 -- Rests on the laws of the scan, in Best.
-use Rattle.order.proofs.Best.{first-none, first-in, first_out, first_done}
-use borrow.Author.Rules.{rules}
+use Rattle.order.proofs.Best.{first_in, first_out}
 use Rattle.order.proofs.first_in.Goals as goal
-
-pub loop-k-init : goal.loop-k-init
-loop-k-init c = (search rules, search first-none)
-
-pub loop-k-preserved-then-set-k-eq1 : goal.loop-k-preserved-then-set-k-eq1
-loop-k-preserved-then-set-k-eq1 c = (search rules, search first-in)
+use Rattle.order.proofs.first_in.Goals.{then-set-k-eq1, else-set-k-eq1}
 
 pub loop-k-preserved : goal.loop-k-preserved
-loop-k-preserved c = (search rules, search first_out)
-
-pub returns : goal.returns
-returns c = search first_done
+loop-k-preserved c =
+    elim c.if-set-k-eq1.branch [
+      | then-set-k-eq1 w ↦ search (first_in, w.x-is)
+      | else-set-k-eq1 w ↦ search (first_out, w.x-is)
+    ]

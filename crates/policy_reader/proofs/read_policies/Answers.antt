@@ -7,7 +7,7 @@ use Rattle.policy_reader.proofs.File.{file_init, file_next, file_yields}
 use Rattle.policy_reader.proofs.read_policies.Goals as goal
 
 pub loop-next-init : goal.loop-next-init
-loop-next-init c = record { bytes = refl; left = file_init _ _ _ _ _ c.requires.rows_room }
+loop-next-init c = record { bytes = refl; left = file_init _ _ _ _ _ c.requires }
 
 pub loop-next-preserved : goal.loop-next-preserved
 loop-next-preserved c =
@@ -17,11 +17,11 @@ loop-next-preserved c =
 pub returns : goal.returns
 returns c =
     let d = rw c.loop-next.invariant.bytes at (rw c.in_default.is at c.in_ok-next.ensures) in
-    file_yields _ _ _ _ _ _ _ c.requires.rows_room (c.turn_at.auto.rows ∙ c.loop-next.auto.rows) (d ∙ c.loop-next.invariant.left.left)
+    file_yields _ _ _ _ _ _ _ c.requires (c.turn_at.auto.rows ∙ c.loop-next.auto.rows) (d ∙ c.loop-next.invariant.left.left)
 
 pub returns-in_err-next : goal.returns-in_err-next
 returns-in_err-next c =
     let d = rw c.loop-next.invariant.bytes at c.in_err-next.ensures in
     let b = c.in_err-next.field-0.0 in
     let e : outcome c.from_residual.result c.turn_at.new.rows ≡ refused (number b.fault) b.offset = search rules in
-    file_yields _ _ _ _ _ _ _ c.requires.rows_room (c.turn_at.auto.rows ∙ c.loop-next.auto.rows) (e ∙ d ∙ c.loop-next.invariant.left.left)
+    file_yields _ _ _ _ _ _ _ c.requires (c.turn_at.auto.rows ∙ c.loop-next.auto.rows) (e ∙ d ∙ c.loop-next.invariant.left.left)

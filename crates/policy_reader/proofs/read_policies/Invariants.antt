@@ -11,7 +11,7 @@ use Rattle.policy_reader.proofs.read_policies.Given as goal
 abbrev pub invariant-loop-next : goal.invariant-loop-next
 invariant-loop-next l = record {
   bytes : l.w.bytes.now ≡ l.p;
-  left : Leaves (schema_of l.schema) l.p l.a l.b l.j l.w.at l.rows (run_of (note_policies (in_force l.a l.b) 0) (policies (schema_of l.schema) l.p) l.initial.rows);
+  left : Leaves (schema_of l.schema.bytes.now) l.p l.a l.b l.j l.w.at l.rows (run_of (note_policies (in_force l.a l.b) 0) (policies (schema_of l.schema.bytes.now) l.p) l.initial.rows);
 }
 
 abbrev pub decreases-loop-next : goal.decreases-loop-next

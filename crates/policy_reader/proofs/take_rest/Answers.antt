@@ -16,7 +16,7 @@ pub overflow_add-head-in-loop-turn : goal.overflow_add-head-in-loop-turn
 overflow_add-head-in-loop-turn c = omega (arith, rest_offset _ _ _ _ _ _ _ _ _ _ _ _ _ c.loop-turn.invariant (omega arith) c.in_ok-node.ensures)
 
 pub note_if-requires : goal.note_if-requires
-note_if-requires c = rest_room _ _ _ _ _ _ _ _ _ _ _ _ _ c.loop-turn.invariant (omega arith) c.in_ok-node.ensures c.requires.schema_in
+note_if-requires c = rest_room _ _ _ _ _ _ _ _ _ _ _ _ _ c.loop-turn.invariant (omega arith) c.in_ok-node.ensures c.requires.counted
 
 pub overflow_add-row : goal.overflow_add-row
 overflow_add-row c = omega (arith, rest_small _ _ _ _ _ _ _ _ _ _ _ _ _ c.loop-turn.invariant (omega arith) c.in_ok-node.ensures)

@@ -4,4 +4,4 @@ use Rattle.policy_reader.proofs.Rules.{Noting}
 use Rattle.policy_reader.proofs.take_rest.Given as goal
 
 abbrev pub invariant-loop-turn : goal.invariant-loop-turn
-invariant-loop-turn l = Noting (schema_of l.schema) l.b l.keep l.head l.n l.initial.row.low l.initial.row.at l.initial.rows l.count l._turn l.row.low l.row.at l.rows
+invariant-loop-turn l = Noting (schema_of l.schema.bytes.now) l.b l.keep l.head l.n l.initial.row.low l.initial.row.at l.initial.rows l.count l._turn l.row.low l.row.at l.rows

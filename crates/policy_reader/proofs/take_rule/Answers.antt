@@ -8,4 +8,4 @@ pub is_good-requires-clause-shape : goal.is_good-requires-clause-shape
 is_good-requires-clause-shape c = search take_shape
 
 pub returns-then-is_good : goal.returns-then-is_good
-returns-then-is_good c = good_rule _ _ _ _ _ _ c.requires.schema_in c.if-from-node.true c.if-node-count.true c.from-node.ensures c.requires.at_in_bounds (sym c.is_good.ensures ∙ c.if-is_good.true)
+returns-then-is_good c = good_rule _ _ _ _ _ _ c.args.schema.now.tabled c.requires.counted c.if-from-node.true c.if-node-count.true c.from-node.ensures c.requires.at_in_bounds (sym c.is_good.ensures ∙ c.if-is_good.true)

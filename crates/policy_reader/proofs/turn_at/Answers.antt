@@ -8,19 +8,19 @@ pub returns-then-p-at : goal.returns-then-p-at
 returns-then-p-at c = search turn_end
 
 pub returns-then-j-eq-MOST_POLICIES : goal.returns-then-j-eq-MOST_POLICIES
-returns-then-j-eq-MOST_POLICIES c = rw c.new.ensures (turn_eight _ _ _ _ _ _ _ _ _ c.requires c.if-p-at.false c.if-j-eq-MOST_POLICIES.true)
+returns-then-j-eq-MOST_POLICIES c = rw c.new.ensures (turn_eight _ _ _ _ _ _ _ c.requires c.if-p-at.false c.if-j-eq-MOST_POLICIES.true)
 
 pub read_policy-requires-clause-fact : goal.read_policy-requires-clause-fact
 read_policy-requires-clause-fact c = search turn_open
 
 pub overflow_add-result : goal.overflow_add-result
-overflow_add-result c = omega (arith, turn_inside _ _ _ _ _ _ _ _ _ c.requires c.if-p-at.false c.if-j-eq-MOST_POLICIES.false c.read_policy.new.rows c.in-Ok.ensures)
+overflow_add-result c = omega (arith, turn_inside _ _ _ _ _ _ _ c.requires c.if-p-at.false c.if-j-eq-MOST_POLICIES.false c.read_policy.new.rows c.in-Ok.ensures)
 
 pub overflow_add-at : goal.overflow_add-at
-overflow_add-at c = omega (arith, turn_points _ _ _ _ _ _ _ _ _ c.requires c.if-p-at.false c.if-j-eq-MOST_POLICIES.false c.in-Err.ensures)
+overflow_add-at c = omega (arith, turn_points _ _ _ _ _ _ _ c.requires c.if-p-at.false c.if-j-eq-MOST_POLICIES.false c.in-Err.ensures)
 
 pub returns-in-Ok : goal.returns-in-Ok
-returns-in-Ok c = turn_more _ _ _ _ _ _ _ _ _ c.requires c.if-p-at.false c.if-j-eq-MOST_POLICIES.false _ c.in-Ok.ensures
+returns-in-Ok c = turn_more _ _ _ _ _ _ _ c.requires c.if-p-at.false c.if-j-eq-MOST_POLICIES.false _ c.in-Ok.ensures
 
 pub returns-in-Err : goal.returns-in-Err
 returns-in-Err c = search (rules, turn_bad)

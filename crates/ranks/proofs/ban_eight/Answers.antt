@@ -1,24 +1,9 @@
--- The offsets from here on are left for each of the eight columns; the greatest ranks are stored at the end.
--- Rests on the laws of a turn, in Banning.
-use Rattle.fields.proofs.Shorts.{element-wide}
-use Rattle.policies.proofs.Offsets.{stretch-inside}
-use Rattle.ranks.proofs.Banning.{greatest-init, greatest-step, greatest-exit, eight-no}
+-- Each column's greatest rank is the greater of that so far and the next PN's.
+-- Rests on greatest_more.
+use Rattle.ranks.proofs.Banning.{greatest_more}
 use Rattle.ranks.proofs.ban_eight.Goals as goal
 
-pub loop-r-init : goal.loop-r-init
-loop-r-init c = search greatest-init
-
-pub overflow_cast-offset : goal.overflow_cast-offset
-overflow_cast-offset c = search element-wide
-
-pub overflow_sub-p : goal.overflow_sub-p
-overflow_sub-p c = search stretch-inside
-
-pub returns-then-p-offset-lt-MOST_SUCCESSORS : goal.returns-then-p-offset-lt-MOST_SUCCESSORS
-returns-then-p-offset-lt-MOST_SUCCESSORS c = search eight-no
-
-pub loop-r-preserved : goal.loop-r-preserved
-loop-r-preserved c = search greatest-step
-
-pub returns : goal.returns
-returns c = search greatest-exit
+pub loop-at-preserved : goal.loop-at-preserved
+loop-at-preserved c =
+    greatest_more c.args.p.now c.args.offsets.now c.loop-at.at-index c.loop-at.most c.loop-at.invariant c.type_inv.p c.loop-at-test.true c.from.ensures
+    (c.in-Some.ensures).cases.same c.greatest-most.ensures

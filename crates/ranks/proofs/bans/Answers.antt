@@ -1,24 +1,12 @@
 -- Both ways tell which successors the noted policies forbid.
 -- Rests on what the rows tell, in Row.
-use Rattle.fields.proofs.Shorts.{element-wide}
-use Rattle.ranks.proofs.Banning.{eight-long}
-use Rattle.ranks.proofs.Row.{row-bytes, columns-bytes, columns-banned, eight-banned}
+use Rattle.ranks.proofs.Row.{columns_banned, eight_banned}
 use Rattle.ranks.proofs.bans.Goals as goal
 
-pub overflow_cast-count : goal.overflow_cast-count
-overflow_cast-count c = search element-wide
+pub returns-then-not-ban_eight : goal.returns-then-not-ban_eight
+returns-then-not-ban_eight c =
+    columns_banned c.args.policies.now c.args.n c.requires.n_in_bounds c.offsets-offsets.ensures.is c.rank_count-columns.ensures c.ban_each.ensures
 
-pub ban_eight-requires-clause-bytes_at : goal.ban_eight-requires-clause-bytes_at
-ban_eight-requires-clause-bytes_at c = search row-bytes
-
-pub returns-then-ban_eight : goal.returns-then-ban_eight
-returns-then-ban_eight c = search eight-banned
-
-pub ban_each-requires-clause-bytes_at : goal.ban_each-requires-clause-bytes_at
-ban_each-requires-clause-bytes_at c = search columns-bytes
-
-pub ban_each-requires-clause-bans_len : goal.ban_each-requires-clause-bans_len
-ban_each-requires-clause-bans_len c = search eight-long
-
-pub returns : goal.returns
-returns c = search columns-banned
+pub returns-else-not-ban_eight : goal.returns-else-not-ban_eight
+returns-else-not-ban_eight c =
+    eight_banned c.args.policies.now c.args.n c.requires.n_in_bounds c.offsets-offsets.ensures.is c.ban_eight.ensures c.if-not-ban_eight.false

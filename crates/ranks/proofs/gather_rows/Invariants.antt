@@ -1,10 +1,6 @@
--- The rows so far, then the PN left, make the order.
-use Prim.Native.Nat.{◌-◌}
-use Rattle.ranks.proofs.Gathering.{Gathering}
+-- The rows so far have the ranks at the offsets so far.
+use Rattle.ranks.proofs.Gathering.{Rows}
 use Rattle.ranks.proofs.gather_rows.Given as goal
 
-abbrev pub invariant-loop-j : goal.invariant-loop-j
-invariant-loop-j l = Gathering l.p l.count l.offsets l.columns l.j l.ranks l.r
-
-abbrev pub decreases-loop-j : goal.decreases-loop-j
-decreases-loop-j l = l.count - l.j
+abbrev pub invariant-loop-r : goal.invariant-loop-r
+invariant-loop-r l = Rows l.p l.offsets l.columns l.r l.ranks

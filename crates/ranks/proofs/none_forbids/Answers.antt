@@ -1,27 +1,18 @@
--- The offsets from here on are left to ask.
--- Rests on the laws of a turn, in Allowing.
-use Rattle.fields.proofs.Shorts.{element-wide}
-use Rattle.ranks.proofs.Allowing.{asking-init, rank-inside, rank-fits, asking-no, asking-step, asking-exit}
-use borrow.Author.Rules.{rules}
+-- The method tells whether each PN allows the column.
+-- Rests on none_has, and on the bytes that stand from the offsets on.
+use Rattle.std.proofs.Common.{rules, tests}
+use Rattle.std.proofs.lemmas.Iterator.{YieldsList-from_slice}
+use Rattle.std.proofs.lemmas.Iterator.Adapters.{serves_from_places}
+use Rattle.std.proofs.lemmas.Iterator.Search.{all_from_yields_List}
+use Rattle.ranks.proofs.Allowing.{allows_at, rank_inside, none_has}
 use Rattle.ranks.proofs.none_forbids.Goals as goal
 
-pub loop-r-init : goal.loop-r-init
-loop-r-init c = search asking-init
-
-pub overflow_cast-offset : goal.overflow_cast-offset
-overflow_cast-offset c = search element-wide
-
-pub overflow_add-offset : goal.overflow_add-offset
-overflow_add-offset c = search (rank-fits, rules)
-
-pub bounds-p-offset : goal.bounds-p-offset
-bounds-p-offset c = search rank-inside
-
-pub returns-then-p-offset : goal.returns-then-p-offset
-returns-then-p-offset c = search asking-no
-
-pub loop-r-preserved : goal.loop-r-preserved
-loop-r-preserved c = search asking-step
+pub all-requires-clause-callable : goal.all-requires-clause-callable
+all-requires-clause-callable c =
+    serves_from_places (YieldsList-from_slice c.args.offsets.now (search rules)) (λ x q h. search rules)
+    (λ x k h e. search (rules, rank_inside c.args.k c.requires k x.now h e))
 
 pub returns : goal.returns
-returns c = search asking-exit
+returns c =
+    none_has c.args.p.now c.args.k c.args.offsets.now
+    (all_from_yields_List (allows_at c.args.p.now c.args.k) _ _ _ c.all.ensures.ran (YieldsList-from_slice c.args.offsets.now (search rules)) (λ x b q k. search (rules, tests)))

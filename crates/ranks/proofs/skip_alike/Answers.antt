@@ -1,18 +1,25 @@
--- The PN so far decide nothing.
+-- The method tells the first PN whose ranks are not known to be all alike.
 -- Rests on the laws of the rows that are skipped, in Gathering.
-use Rattle.fields.proofs.Shorts.{element-wide}
-use Rattle.policies.proofs.Offsets.{stretch-inside}
-use Rattle.ranks.proofs.Gathering.{skip-init, skip_step}
+use Rattle.std.proofs.Common.{rules, tests, true}
+use Rattle.std.proofs.lemmas.Iterator.{YieldsList-from_slice, IsFirst-from_position}
+use Rattle.std.proofs.lemmas.Iterator.Adapters.{serves_from_places}
+use Rattle.ranks.specs.Ranks.{AllAlike}
+use Rattle.ranks.proofs.Gathering.{skip_found, skip_all, offset_inside}
 use Rattle.ranks.proofs.skip_alike.Goals as goal
 
-pub loop-j-init : goal.loop-j-init
-loop-j-init c = search skip-init
+pub position-requires-clause-callable : goal.position-requires-clause-callable
+position-requires-clause-callable c =
+    serves_from_places (YieldsList-from_slice c.args.offsets.now (search rules)) (λ x q h. search rules)
+    (λ x k h e. search (rules, offset_inside c.requires k x.now h e))
 
-pub overflow_cast-offset : goal.overflow_cast-offset
-overflow_cast-offset c = search element-wide
+pub returns-in-Some : goal.returns-in-Some
+returns-in-Some c =
+    skip_found c.args.p.now c.args.offsets.now
+    (IsFirst-from_position _ _ _ (λ o. Unit {0}) (λ o. AllAlike c.args.p.now o true) c.position.ensures.ran (YieldsList-from_slice c.args.offsets.now (search rules)) (λ x q k. tt) (λ x q k. search (rules, tests)))
+    c.in-Some.is
 
-pub is_alike-requires : goal.is_alike-requires
-is_alike-requires c = search stretch-inside
-
-pub loop-j-preserved : goal.loop-j-preserved
-loop-j-preserved c = search skip_step
+pub returns-in-None : goal.returns-in-None
+returns-in-None c =
+    skip_all c.args.p.now c.args.offsets.now
+    (IsFirst-from_position _ _ _ (λ o. Unit {0}) (λ o. AllAlike c.args.p.now o true) c.position.ensures.ran (YieldsList-from_slice c.args.offsets.now (search rules)) (λ x q k. tt) (λ x q k. search (rules, tests)))
+    c.in-None.is

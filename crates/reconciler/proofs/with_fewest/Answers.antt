@@ -7,25 +7,21 @@ use Rattle.calls.proofs.Inputs.{schema_accepted, schema_tabled, schema_ok_did}
 use Rattle.inputs.proofs.Above.{in_force_noted, in_force_bad_did, in_force_reconciled}
 use Rattle.reconciler.proofs.with_fewest.Goals as goal
 
-pub read_in_force-requires-clause-accepted : goal.read_in_force-requires-clause-accepted
-read_in_force-requires-clause-accepted c = schema_accepted _ _ _ c.read_schema.ensures (mapped_ok _ c.in_ok-map_err.ensures.cases)
-
-pub read_in_force-requires-clause-tabled : goal.read_in_force-requires-clause-tabled
-read_in_force-requires-clause-tabled c = schema_tabled _ _ _ c.read_schema.ensures (mapped_ok _ c.in_ok-map_err.ensures.cases)
+pub invariant_of-schema : goal.invariant_of-schema
+invariant_of-schema c =
+    record {
+      accepted = schema_accepted _ _ _ c.read_schema.ensures (mapped_ok _ c.in_ok-map_err.ensures.cases);
+      tabled = schema_tabled _ _ _ c.read_schema.ensures (mapped_ok _ c.in_ok-map_err.ensures.cases);
+      bytes_fit = c.type_inv.schema;
+    }
 
 pub returns-in_err-read_in_force : goal.returns-in_err-read_in_force
 unfolding reconciling
 returns-in_err-read_in_force c =
     search (schema_ok_did _ _ _ c.read_schema.ensures (mapped_ok _ c.in_ok-map_err.ensures.cases), in_force_bad_did _ _ _ _ _ c.in_err-read_in_force.ensures, rules)
 
-pub in_force-requires-clause-accepted : goal.in_force-requires-clause-accepted
-in_force-requires-clause-accepted c = schema_accepted _ _ _ c.read_schema.ensures (mapped_ok _ c.in_ok-map_err.ensures.cases)
-
-pub in_force-requires-clause-tabled : goal.in_force-requires-clause-tabled
-in_force-requires-clause-tabled c = schema_tabled _ _ _ c.read_schema.ensures (mapped_ok _ c.in_ok-map_err.ensures.cases)
-
-pub in_force-requires-clause-noted : goal.in_force-requires-clause-noted
-in_force-requires-clause-noted c = in_force_noted _ _ _ _ _ c.in_ok-read_in_force.ensures
+pub invariant_of-policies : goal.invariant_of-policies
+invariant_of-policies c = record { noted = in_force_noted _ _ _ _ _ c.in_ok-read_in_force.ensures }
 
 pub returns : goal.returns
 unfolding reconciling

@@ -5,4 +5,4 @@ use Rattle.rule_reader.proofs.Reader.{conditions_more}
 use Rattle.rule_reader.proofs.read_conditions.Goals as goal
 
 pub loop-k-preserved : goal.loop-k-preserved
-loop-k-preserved c = conditions_more _ _ _ _ _ c.loop-k.invariant (omega arith) c.variable_count-k-end.ensures c.variable_of-v.ensures c.in_ok-at.ensures
+loop-k-preserved c = conditions_more _ _ _ _ _ c.loop-k.invariant (omega arith) c.variable_count-k-end.ensures c.variable.ensures c.in_ok-at.ensures

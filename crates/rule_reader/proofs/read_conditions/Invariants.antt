@@ -7,4 +7,4 @@ use Rattle.policies.specs.Policies.{conditions}
 use Rattle.rule_reader.proofs.read_conditions.Given as goal
 
 abbrev pub invariant-loop-k : goal.invariant-loop-k
-invariant-loop-k l = end_of (conditions l.b (drop l.k (node_at (schema_of l.schema) l.n).variables) l.at) ≡ end_of (conditions l.b (node_at (schema_of l.schema) l.n).variables l.from)
+invariant-loop-k l = end_of (conditions l.b (drop l.k (node_at (schema_of l.schema.bytes.now) l.n).variables) l.at) ≡ end_of (conditions l.b (node_at (schema_of l.schema.bytes.now) l.n).variables l.from)

@@ -5,11 +5,13 @@ use Rattle.calls.specs.Calls.{delivering, sheeting}
 use Rattle.calls.proofs.Inputs.{schema_accepted, schema_tabled, schema_ok_did}
 use Rattle.sheet.proofs.sheet.Goals as goal
 
-pub with_schema-requires-clause-accepted : goal.with_schema-requires-clause-accepted
-with_schema-requires-clause-accepted c = schema_accepted _ _ _ c.read_schema.ensures (mapped_ok _ c.in_ok-map_err.ensures.cases)
-
-pub with_schema-requires-clause-tabled : goal.with_schema-requires-clause-tabled
-with_schema-requires-clause-tabled c = schema_tabled _ _ _ c.read_schema.ensures (mapped_ok _ c.in_ok-map_err.ensures.cases)
+pub invariant_of-schema : goal.invariant_of-schema
+invariant_of-schema c =
+    record {
+      accepted = schema_accepted _ _ _ c.read_schema.ensures (mapped_ok _ c.in_ok-map_err.ensures.cases);
+      tabled = schema_tabled _ _ _ c.read_schema.ensures (mapped_ok _ c.in_ok-map_err.ensures.cases);
+      bytes_fit = c.type_inv.schema;
+    }
 
 pub returns : goal.returns
 unfolding sheeting delivering

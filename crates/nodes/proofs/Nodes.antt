@@ -1,0 +1,104 @@
+-- What an accepted schema's bytes and table tell of a node, at the places that the methods read.
+-- Rests on the laws of those places, in the schema's Access.
+use mathlib.Core.Path.{◌≡◌, sym, ◌∙◌}
+use mathlib.Core.Bool.{true}
+use Prim.Native.Nat.{ℕ, ◌+◌, ◌-◌, ◌*◌, ◌/◌, ◌%◌, ◌≤◌, ◌<◌}
+use native.Mathlib.Omega.{arith}
+use lib.ListN.{length, get_or, take, drop, length-drop}
+use lib.Seq.{get_or-take, get_or-drop, length-take-le, ext_get_or}
+use lib.IntN.{ℤ}
+use mir.Val.{to_z, of_z}
+use mir.Syntax.{w32}
+use Rattle.fields.specs.Reading.{be}
+use Rattle.schema.specs.Schema.{schema_of, node_at, variable_at, is_number}
+use Rattle.schema.specs.Layout.{rank_count}
+use Rattle.schema.specs.Table.{AtMost}
+use Rattle.schema.specs.declared.Variable.TheVariants.{Number, Listed}
+use Rattle.schema.proofs.Access as access
+use Rattle.nodes.specs.declared.Schema.{Schema}
+
+module _ (x : Schema) where
+  pub count_inside : 2 < length x.bytes.now
+  count_inside = access.count-inside x.bytes.now x.accepted
+
+  pub count_is : {r : ℕ} → r ≡ get_or x.bytes.now 2 0 → AtMost 64 (length (schema_of x.bytes.now)) r
+  count_is e = access.count_at x.bytes.now x.accepted e
+
+module _ (x : Schema) (n : ℕ) (l : n < length (schema_of x.bytes.now)) where
+  -- ---- its successors stand after their number, which is the fourth byte of its record
+
+  module _ {a : ℕ} (e : a ≡ get_or x.table.now (16 * n) 0) where
+    pub record_inside : a + 3 < length x.bytes.now
+    record_inside = let o = access.here x.bytes.now x.table.now n x.tabled l in omega (arith, e, o.inside)
+
+    module _ {k : ℕ} (f : k ≡ get_or x.bytes.now (a + 3) 0) where
+      size_is : length (node_at (schema_of x.bytes.now) n).successors ≡ k
+      size_is = (access.here x.bytes.now x.table.now n x.tabled l).linked ∙ (rw (← e) (sym f))
+
+      pub successors_inside : a + 4 + k ≤ length x.bytes.now
+      successors_inside = let o = access.here x.bytes.now x.table.now n x.tabled l in omega (arith, e, o.inside, size_is)
+
+      pub successors_are : take (a + 4 + k - (a + 4)) (drop (a + 4) x.bytes.now) ≡ (node_at (schema_of x.bytes.now) n).successors
+      successors_are =
+          let w : a + 4 + k - (a + 4) ≡ k = omega arith in
+          let m : length (take k (drop (a + 4) x.bytes.now)) ≡ k = length-take-le k (drop (a + 4) x.bytes.now) (omega (arith, length-drop (a + 4) x.bytes.now, successors_inside)) in
+          rw w (ext_get_or 0 (take k (drop (a + 4) x.bytes.now)) (node_at (schema_of x.bytes.now) n).successors (m ∙ sym size_is)
+          (λ j h. get_or-take k (drop (a + 4) x.bytes.now) j 0 (omega (arith, m)) ∙ get_or-drop (a + 4) x.bytes.now j 0
+          ∙ (rw (← e) at (sym ((access.here x.bytes.now x.table.now n x.tabled l).links j (omega (arith, m, size_is)))))))
+
+  -- ---- how many ranks and variables it has
+
+  pub ranks_are : {r : ℕ} → r ≡ get_or x.table.now (16 * n + 7) 0 → AtMost 8 (rank_count (node_at (schema_of x.bytes.now) n)) (r % 16)
+  ranks_are e = access.ranks-count x.bytes.now x.table.now n x.tabled l e
+
+  pub variables_are : {r : ℕ} → r ≡ get_or x.table.now (16 * n + 7) 0 → AtMost 4 (length (node_at (schema_of x.bytes.now) n).variables) (r / 16)
+  variables_are e = access.variables-count x.bytes.now x.table.now n x.tabled l e
+
+  -- ---- its variable k: the type, then the bounds or the size
+
+  module _ (k : ℕ) (m : k < length (node_at (schema_of x.bytes.now) n).variables) where
+    pub slot_inside : 16 * n + 1 + k < length x.table.now
+    slot_inside = access.variable-small x.bytes.now x.table.now n k x.tabled l m
+
+    module _ {p : ℕ} (e : p ≡ get_or x.table.now (16 * n + 1 + k) 0) where
+      pub type_inside : p < length x.bytes.now
+      type_inside = access.variable-inside x.bytes.now x.table.now n k x.tabled l m e
+
+      module _ (z : get_or x.bytes.now p 0 ≡ 0) where
+        pub number_inside : p + 9 ≤ length x.bytes.now
+        number_inside = access.number-inside x.bytes.now x.table.now n k x.tabled l m e z
+
+        pub number_is : (lo hi : ℤ) → of_z w32 lo ≡ be 4 x.bytes.now (p + 1) → of_z w32 hi ≡ be 4 x.bytes.now (p + 5)
+            → Number (to_z w32 (of_z w32 lo)) (to_z w32 (of_z w32 hi)) ≡ variable_at (schema_of x.bytes.now) n k
+        number_is = access.number_at x.bytes.now x.table.now n k x.tabled l m e z
+
+      module _ (z : get_or x.bytes.now p 0 ≡ 0 → ⊥) where
+        pub listed_inside : p + 2 ≤ length x.bytes.now
+        listed_inside = access.listed-inside x.bytes.now x.table.now n k x.tabled l m e z
+
+        pub listed_is : Listed (get_or x.bytes.now (p + 1) 0) ≡ variable_at (schema_of x.bytes.now) n k
+        listed_is = access.listed_at x.bytes.now x.table.now n k x.tabled l m e z
+
+      -- where it is known to be a number
+      module _ (q : is_number (variable_at (schema_of x.bytes.now) n k) ≡ true) where
+        pub bounds_inside : p + 9 ≤ length x.bytes.now
+        bounds_inside = number_inside (access.type-zero x.bytes.now x.table.now n k x.tabled l m e q)
+
+        pub bounds_are : (lo hi : ℤ) → of_z w32 lo ≡ be 4 x.bytes.now (p + 1) → of_z w32 hi ≡ be 4 x.bytes.now (p + 5)
+            → Number (to_z w32 (of_z w32 lo)) (to_z w32 (of_z w32 hi)) ≡ variable_at (schema_of x.bytes.now) n k
+        bounds_are = number_is (access.type-zero x.bytes.now x.table.now n k x.tabled l m e q)
+
+-- for the methods; the others stand in their answers
+pub ruleset of_nodes = (
+  count_inside,
+  count_is,
+  record_inside,
+  successors_inside,
+  successors_are,
+  slot_inside,
+  type_inside,
+  number_inside,
+  listed_inside,
+  listed_is,
+  bounds_inside,
+)
