@@ -13,7 +13,8 @@ use Rattle.fields.proofs.Refusals.{of_file}
 use Rattle.fields.proofs.Judged.{judged-all, judged_end, refused_did, did-same}
 use Rattle.schema.specs.Schema.{Node, schema, schema_of}
 use Rattle.schema.proofs.Refusals.{schema-numbered}
-use Rattle.schema.specs.Table.{Accepted, Tabled, SetsIn, YieldsSchema}
+use Rattle.schema.specs.Table.{Accepted, Tabled, YieldsSchema}
+use Rattle.schema.specs.declared.Layout.{Layout}
 use Rattle.schema.proofs.Accepted.{schema_got, accepted_by}
 use Rattle.policies.specs.Policies.{Policy, policies}
 use Rattle.policies.specs.Pass.{pass, forced}
@@ -38,8 +39,8 @@ module _ {B : Type 0} (P : B → Type 0) (refuse : ℕ → ℕ → ℕ → B) (r
 
 -- ---- the schema, by its reader's answer
 
-module _ (s t u : List ℕ) where
-  module _ {x : Breach} (w : YieldsSchema s (Err x) t u) where
+module _ (s : List ℕ) (t : List Layout) where
+  module _ {x : Breach} (w : YieldsSchema s (Err x) t) where
     pub schema_bad : (k : List Node → Answer) → refusal (number x.fault) 1 x.offset ≡ with_schema refusal s k
     unfolding with_schema
     schema_bad k = sym (judged_end refusal 1 (schema s) k w.answer)
@@ -48,7 +49,7 @@ module _ (s t u : List ℕ) where
     unfolding with_schema
     schema_bad_did out k = refused_did out (judged_end (leaving out) 1 (schema s) k w.answer) refl
 
-  module _ {r : Result ℕ Breach} {q : ℕ} (w : YieldsSchema s r t u) (e : r ≡ Ok q) where
+  module _ {r : Result ℕ Breach} {q : ℕ} (w : YieldsSchema s r t) (e : r ≡ Ok q) where
     answered : got tt q ≡ end_of (schema s)
     answered = sym (ap as_end e) ∙ w.answer
 
@@ -57,9 +58,6 @@ module _ (s t u : List ℕ) where
 
     pub schema_tabled : Tabled s t
     schema_tabled = w.tabled schema_accepted
-
-    pub schema_sets : SetsIn s u
-    schema_sets = w.sets schema_accepted
 
     schema-read : {B : Type 0} (refuse : ℕ → ℕ → ℕ → B) (k : List Node → B) → with_schema refuse s k ≡ k (schema_of s)
     unfolding with_schema judged

@@ -9,6 +9,7 @@ use Rattle.fields.specs.declared.Breach.{Breach}
 use Rattle.fields.specs.declared.Refusal.{Refusal}
 use Rattle.fields.specs.declared.Fault.TheVariants.{Forbidden as ForbiddenField}
 use Rattle.fields.specs.declared.File.TheVariants.{Instance}
+use Rattle.fields.specs.Reading.{bad}
 use Rattle.fields.specs.Answers.{number, file_number, success, refusal, judged}
 use Rattle.fields.proofs.Judged.{judged_bad}
 use Rattle.schema.specs.Schema.{Node}
@@ -16,12 +17,13 @@ use Rattle.policies.specs.Policies.{Policy}
 use Rattle.instances.specs.Instance.{Entry}
 use Rattle.instances.specs.File.{instance}
 use Rattle.instances.specs.Plan.{planned, plan_of}
+use Rattle.instances.specs.declared.Slot.{Slot}
 use Rattle.instance_reader.specs.Decoded.{YieldsInstance}
-use Rattle.instance_reader.proofs.Decoded.{AnInstance, no_instance, an_instance}
+use Rattle.instance_reader.proofs.Decoded.{AnInstance, an_instance}
 use Rattle.model.specs.Comparing.{forbidden}
 use Rattle.calls.specs.Calls.{permitted, checking_in_force}
 use Rattle.checker.specs.Checks.{Found, forbidden_in}
-use Rattle.std.specs.Prelude.{Result, Ok, Err, Some, None}
+use Rattle.std.specs.Prelude.{Result, Ok, Some, None}
 
 module _ (o : Option ℕ) {x : Found} (e : x ≡ forbidden_in o) where
   permitted-none : x ≡ None → success 0 ≡ permitted o
@@ -40,14 +42,14 @@ module _ (o : Option ℕ) {x : Found} (e : x ≡ forbidden_in o) where
       go none h = absurd (let z : ◌≡◌ {A = ℕ} 0 1 = cc in omega arith)
       go (some r) h = let z : q ≡ r = cc in ap (refusal 18 4) z
 
-module _ (g : List Node) (ps : List Policy) (s choices bits : List ℕ) where
-  pub instance_bad : {b : Breach} → YieldsInstance g s choices bits (Err b) → refusal (number b.fault) 4 b.offset ≡ checking_in_force g ps s
+module _ (g : List Node) (ps : List Policy) (s : List ℕ) where
+  pub instance_bad : (b : Breach) → instance g s ≡ bad (number b.fault) b.offset → refusal (number b.fault) 4 b.offset ≡ checking_in_force g ps s
   unfolding checking_in_force
-  instance_bad w = sym (judged_bad refusal 4 (instance g s) _ (no_instance g s choices bits w))
+  instance_bad b e = sym (judged_bad refusal 4 (instance g s) _ e)
 
-  module _ {y : Result ℕ Breach} {m : ℕ} (w : YieldsInstance g s choices bits y) (h : y ≡ Ok m) {x : Found} (e : x ≡ forbidden_in (forbidden g ps (planned g (plan_of g choices bits)))) where
-    read : AnInstance g s choices bits m
-    read = an_instance g s choices bits w h
+  module _ {before slots : List Slot} {y : Result ℕ Breach} {m : ℕ} (w : YieldsInstance g s before slots y) (h : y ≡ Ok m) {x : Found} (e : x ≡ forbidden_in (forbidden g ps (planned g (plan_of g slots)))) where
+    read : AnInstance g s before slots m
+    read = an_instance g s w h
 
     found : x ≡ forbidden_in (forbidden g ps read.i)
     found = e ∙ ap (λ (i : List Entry). forbidden_in (forbidden g ps i)) read.holds

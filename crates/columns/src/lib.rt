@@ -7,11 +7,12 @@ ghost use Rattle.decimals.specs.Decimal.{decimal};
 ghost use Rattle.numbers.specs.Bits.{cardinality};
 ghost use Rattle.schema.specs.Schema.{schema_of, node_at};
 ghost use Rattle.instances.specs.File.{value_of};
-ghost use Rattle.instances.specs.Plan.{nodes_of, values_from, values_slot, plan_of, held, BitsRoom};
+ghost use Rattle.instances.specs.Plan.{nodes_of, values_from, plan_of, held, SlotsRoom};
 ghost use Rattle.columns.specs.Sheet.{spaces, right_aligned, signed_decimal, choice_column, value_columns, sheet_line, sheet, line_bytes};
 
+use instances::Slot;
 use nodes::Schema;
-use schema::{MOST_NODES, MOST_VARIABLES, Variable};
+use schema::{MOST_VARIABLES, Variable};
 
 // The columns of a node, and of a choice and a value with the space before each.
 const NODE_WIDTH: usize = 2;
@@ -75,63 +76,49 @@ fn put_value(v: Variable, u: u32, out: &mut [u8], at: usize)
     }
 }
 
-// Node n's values, a space before each, and spaces for those that it does not have.
-fn put_values(schema: &Schema, n: usize, bits: &[u32], out: &mut [u8], from: usize)
+// Node n's values, which have these bits, a space before each, and spaces for those that it does not have.
+#[tactic(auto, using(instances::proofs::Slots::place_inside))]
+fn put_values(schema: &Schema, n: usize, bits: &[u32; MOST_VARIABLES], out: &mut [u8], from: usize)
     requires node_in { n < length (schema_of schema.now.bytes.now) }
-    requires bits_room { BitsRoom schema.now.bytes.now bits.now }
     requires from_in_bounds { from + 48 ≤ length out.old }
-    ensures { Wrote out.old from (value_columns 4 (values_from (node_at (schema_of schema.now.bytes.now) n).variables bits.now (values_slot n))) out.new (from + 48) }
+    ensures { Wrote out.old from (value_columns 4 (values_from (node_at (schema_of schema.now.bytes.now) n).variables bits.now 0)) out.new (from + 48) }
 {
     let mut at = from;
     for k in 0..schema.variable_count(n) {
         let v = schema.variable(n, k);
-        put_value(v, bits[MOST_VARIABLES * n + k], out, at);
+        put_value(v, bits[k], out, at);
         at += VALUE_WIDTH;
     }
     out[at..from + VALUES_WIDTH].fill(b' ');
 }
 
-// The line of node n's entry, as the arrays hold it.
-fn put_line(
-    schema: &Schema,
-    n: usize,
-    choices: &[u8; MOST_NODES],
-    bits: &[u32],
-    out: &mut [u8],
-    at: usize,
-)
+// The line of node n's entry, as the slots hold it.
+#[tactic(auto, using(instances::proofs::Slots::slot_inside))]
+fn put_line(schema: &Schema, n: usize, slots: &[Slot], out: &mut [u8], at: usize)
     requires node_in { n < length (schema_of schema.now.bytes.now) }
-    requires bits_room { BitsRoom schema.now.bytes.now bits.now }
+    requires slots_room { SlotsRoom schema.now.bytes.now slots.now }
     requires line_bytes_in_bounds { at + line_bytes ≤ length out.old }
-    ensures { Wrote out.old at (sheet_line (plan_of (schema_of schema.now.bytes.now) choices.now bits.now n)) out.new (at + line_bytes) }
+    ensures { Wrote out.old at (sheet_line (plan_of (schema_of schema.now.bytes.now) slots.now n)) out.new (at + line_bytes) }
 {
+    let slot = &slots[n];
     put_right(out, at, NODE_WIDTH, n as u64);
-    put_choice(out, at + NODE_WIDTH, choices[n]);
-    put_values(schema, n, bits, out, at + NODE_WIDTH + CHOICE_WIDTH);
+    put_choice(out, at + NODE_WIDTH, slot.choice);
+    put_values(schema, n, &slot.bits, out, at + NODE_WIDTH + CHOICE_WIDTH);
     out[at + NODE_WIDTH + CHOICE_WIDTH + VALUES_WIDTH] = b'\n';
 }
 
-// The sheet of the instance that the arrays hold, whose nodes are these, at the start of a buffer that has room for it: the
+// The sheet of the instance that the slots hold, whose nodes are these, at the start of a buffer that has room for it: the
 // lowest node's line first.
-pub fn put_sheet(
-    schema: &Schema,
-    nodes: u64,
-    choices: &[u8; MOST_NODES],
-    bits: &[u32],
-    out: &mut [u8],
-) -> usize
-    requires bits_room { BitsRoom schema.now.bytes.now bits.now }
-    requires nodes_value { nodes ≡ nodes_of (held schema.now.bytes.now choices.now bits.now) }
+pub fn put_sheet(schema: &Schema, nodes: u64, slots: &[Slot], out: &mut [u8]) -> usize
+    requires slots_room { SlotsRoom schema.now.bytes.now slots.now }
+    requires nodes_value { nodes ≡ nodes_of (held schema.now.bytes.now slots.now) }
     requires nodes_in_bounds { line_bytes * cardinality nodes ≤ length out.old }
-    ensures { Wrote out.old 0 (sheet (held schema.now.bytes.now choices.now bits.now)) out.new result }
+    ensures { Wrote out.old 0 (sheet (held schema.now.bytes.now slots.now)) out.new result }
 {
-    let mut left = nodes;
     let mut at: usize = 0;
-    while 0 < left {
-        let n = numbers::lowest(left);
-        put_line(schema, n, choices, bits, out, at);
+    for n in numbers::members(nodes) {
+        put_line(schema, n, slots, out, at);
         at += LINE_BYTES;
-        left = numbers::turned_bit(left, n);
     }
     at
 }

@@ -16,42 +16,34 @@ use Rattle.schema.specs.Table.{Accepted, AtMost}
 use Rattle.schema.proofs.Sound.{Sound}
 use Rattle.schema.proofs.Accepted.{sound}
 use Rattle.policies.specs.Policies.{Policy}
+use Rattle.policies.specs.declared.Row.{Row}
 use Rattle.policies.specs.Rows.{noted}
 use Rattle.instances.specs.File.{encode, ReadsBack}
 use Rattle.instances.specs.Instance.{Entry}
-use Rattle.instance_reader.specs.Decoded.{choices_of}
-use Rattle.instances.proofs.IsInstance.{Reached, root, Ascending, IsInstance}
-use Rattle.instance_reader.proofs.Decoded.{choice-at, choice-none}
+use Rattle.instances.specs.Plan.{slot_at}
+use Rattle.instances.specs.declared.Slot.{Slot}
+use Rattle.instances.proofs.IsInstance.{Reached, root, IsInstance}
 use Rattle.instances.proofs.RoundTrip.{read_is, encode-bytes, reached-below}
-use Rattle.model.specs.Order.{choice_of, choice_at, better, good_at, good_step, good, as_good}
+use Rattle.model.specs.Order.{better, good_at, good_step, good, as_good}
 use Rattle.order.specs.Order.{in_set}
-use Rattle.model.proofs.Entries.{Found, found, missing, lookup}
 use Rattle.model.proofs.Order.{good-by-table}
-use Rattle.comparison.specs.Comparison.{YieldsAsGood}
-
--- the table of choices holds the choice at each node
-choice-is : (i : List Entry) → Ascending i → (n : ℕ) → n < 64 → get_or (choices_of i) n 0 ≡ choice_at i n
-choice-is i a n h = go (lookup i a n)
-  where
-    go : Found i n → get_or (choices_of i) n 0 ≡ choice_at i n
-    go (found e m q t) = ap (λ (k : ℕ). get_or (choices_of i) k 0) (sym q) ∙ choice-at i a e m (omega arith) ∙ sym (ap choice_of t)
-    go (missing q t) = choice-none i n h q ∙ sym (ap choice_of t)
+use Rattle.comparison.specs.Comparison.{Choices, YieldsAsGood}
 
 -- two instances with these choices
-pub record Of (g : List Node) (first second : List ℕ) (i j : List Entry) : Type 0 where
+pub record Of (g : List Node) (first second : List Slot) (i j : List Entry) : Type 0 where
   pub first-is : IsInstance g i
   pub second_is : IsInstance g j
-  pub first-chosen : first ≡ choices_of i
-  pub second-chosen : second ≡ choices_of j
+  pub first-chosen : Choices g i first
+  pub second-chosen : Choices g j second
 
-pub record Flagging (schema p rows first second flags : List ℕ) (n : ℕ) : Type 0 where
+pub record Flagging (schema p : List ℕ) (rows : List Row) (first second : List Slot) (flags : List ℕ) (n : ℕ) : Type 0 where
   pub sound : Sound (schema_of schema)
   pub below : n ≤ length (schema_of schema)
   pub long : length flags ≡ 64
   pub right : (i j : List Entry) → Of (schema_of schema) first second i j → (m : ℕ) → n ≤ m → Reached (schema_of schema) i m
       → in_set flags m ≡ good (schema_of schema) (better (schema_of schema) (noted (schema_of schema) p rows)) i j m
 
-module _ (schema p rows first second : List ℕ) where
+module _ (schema p : List ℕ) (rows : List Row) (first second : List Slot) where
   abbrev g : List Node
   g = schema_of schema
 
@@ -75,14 +67,14 @@ module _ (schema p rows first second : List ℕ) where
     pub flagging_small : 0 < n → n - 1 < 64
     flagging_small h = let z = w.below in let y = w.sound.few in omega arith
 
-    module _ (h : 0 < n) {r : Bool} (e : r ≡ good_at g (better g ps) (in_set flags) (n - 1) (get_or first (n - 1) 0) (get_or second (n - 1) 0)) where
+    module _ (h : 0 < n) {r : Bool} (e : r ≡ good_at g (better g ps) (in_set flags) (n - 1) (slot_at first (n - 1)).choice (slot_at second (n - 1)).choice) where
       here : (i j : List Entry) → Of g first second i j → Reached g i (n - 1) → r ≡ good g (better g ps) i j (n - 1)
       unfolding good_step
       here i j o v =
           e
           ∙ ap₂ (good_at g (better g ps) (in_set flags) (n - 1))
-          (ap (λ (l : List ℕ). get_or l (n - 1) 0) o.first-chosen ∙ choice-is i o.first-is.ascending (n - 1) (flagging_small h))
-          (ap (λ (l : List ℕ). get_or l (n - 1) 0) o.second-chosen ∙ choice-is j o.second_is.ascending (n - 1) (flagging_small h))
+          (o.first-chosen.is (n - 1) (flagging_node h))
+          (o.second-chosen.is (n - 1) (flagging_node h))
           ∙ good-by-table g (better g ps) w.sound i j o.first-is (in_set flags) (n - 1) v (λ m k u. w.right i j o m (omega arith) u)
 
       module _ {f : ℕ} (k : f ≡ bool_byte r) where

@@ -37,9 +37,9 @@ module _ (g : List Node) (ps : List Policy) (h : ℕ → Bool) (n x y : ℕ) whe
       go false = refl
 
 module _ (g : List Node) (better : ℕ → ℕ → ℕ → Bool) (h : ℕ → Bool) (n x y : ℕ) {c r : Bool} (e : c ≡ chooses (node_at g n)) where
-  pub node_chooses : {u v : ℕ} → c ≡ true → u ≡ x → v ≡ y → r ≡ good_choice better h n u v → r ≡ good_at g better h n x y
+  pub node_chooses : c ≡ true → r ≡ good_choice better h n x y → r ≡ good_at g better h n x y
   unfolding good_at
-  node_chooses t i j q = rw (sym e ∙ t, ← i, ← j) q
+  node_chooses t q = rw (sym e ∙ t) q
 
   pub node_rests : c ≡ false → r ≡ every h (node_at g n).successors → r ≡ good_at g better h n x y
   unfolding good_at

@@ -4,27 +4,26 @@ use mathlib.Core.Path.{◌≡◌, refl, ap, sym, ◌∙◌}
 use mathlib.Core.Bool.{Bool, true, ◌&&◌}
 use mathlib.Core.List.{List, []}
 use mathlib.Core.Option.{Option, none, some}
-use Prim.Native.Nat.{ℕ, zero, suc, ◌+◌, ◌*◌, ◌≤◌, ◌<◌, ◌^◌}
+use Prim.Native.Nat.{ℕ, zero, suc, ◌+◌, ◌≤◌, ◌<◌, ◌^◌}
 use native.Mathlib.Omega.{arith}
 use native.Mathlib.Decide.{dec_lt}
-use lib.ListN.{length, get_or, set}
+use lib.ListN.{length, get_or, set, length-set}
 use lib.Seq.{get_or-set_same, get_or-set_other}
 use lib.IntN.{ℤ, pos}
 use lib.Signed.{le_z, mag}
 use mir.Syntax.{w32}
 use mir.Val.{to_z, of_z}
 use Rattle.fields.proofs.Tests.{and-true, never}
-use Rattle.schema.specs.Schema.{Node, schema_of, node_at, no_variable, is_number}
+use Rattle.schema.specs.Schema.{Node, node_at, no_variable, is_number}
 use Rattle.schema.specs.declared.Variable.{Variable}
 use Rattle.schema.specs.declared.Variable.TheVariants.{Number, Listed}
 use Rattle.policies.specs.Policies.{mask, Policy}
 use Rattle.instances.specs.File.{value_of}
-use Rattle.instances.specs.Plan.{BitsRoom}
 use Rattle.model.specs.Reconciling.{combined, is_some, least, least_each, with_head}
 use Rattle.conditions.specs.Least.{LeastIn, range_in, ranges_in}
 use Rattle.conditions.specs.Rules.{four_numbers}
 use Rattle.conditions.specs.declared.Conditions.{Conditions}
-use Rattle.conditions.proofs.Least.{Outside, outside-init, outside_set, each-some, left-range}
+use Rattle.conditions.proofs.Least.{left-range, values-some}
 use Rattle.conditions.proofs.Narrowing.{kept}
 use Rattle.conditions.proofs.Numbers.{below-four, four-length, every-number, number_at}
 
@@ -74,48 +73,43 @@ number-value (Listed size) u e = never e
 
 -- ---- the bits of the lower bounds before k stand in their slots
 
-pub record Stored (c : Conditions) (n k : ℕ) (t₀ t : List ℕ) : Type 0 where
-  pub each : (i : ℕ) → i < k → to_z w32 (get_or t (4 * n + i) 0) ≡ get_or c.lo i (pos 0)
-  pub outside : Outside n t₀ t
+pub record Stored (c : Conditions) (k : ℕ) (t : List ℕ) : Type 0 where
+  pub each : (i : ℕ) → i < k → to_z w32 (get_or t i 0) ≡ get_or c.lo i (pos 0)
+  pub long : length t ≡ 4
 
-pub stored_init : (c : Conditions) (n : ℕ) (t : List ℕ) → Stored c n 0 t t
-stored_init c n t = record { each = λ i h. absurd (omega arith); outside = outside-init n t }
+pub stored_init : (c : Conditions) (t : List ℕ) → length t ≡ 4 → Stored c 0 t
+stored_init c t l = record { each = λ i h. absurd (omega arith); long = l }
 
-module _ (s : List ℕ) (c : Conditions) (n k : ℕ) (t₀ t : List ℕ) (w : Stored c n k t₀ t) (h : n < length (schema_of s)) (room : BitsRoom s t₀) (l : k < 4) where
-  pub stored_slot : 4 * n + k < length t
-  stored_slot = omega (arith, w.outside.long, room.long)
-
-  pub stored_step : (u : ℕ) → mag (get_or c.lo k (pos 0)) < 2 ^ 31 → u ≡ of_z w32 (to_z w32 (of_z w32 (get_or c.lo k (pos 0)))) → Stored c n (k + 1) t₀ (set t (4 * n + k) u)
-  stored_step u f e = record { each = λ i j. one i j (dec_lt i k); outside = outside_set n t₀ t w.outside (4 * n + k) u (omega arith) (omega arith) }
+module _ (c : Conditions) (k : ℕ) (t : List ℕ) (w : Stored c k t) (l : k < 4) where
+  pub stored_step : (u : ℕ) → mag (get_or c.lo k (pos 0)) < 2 ^ 31 → u ≡ of_z w32 (to_z w32 (of_z w32 (get_or c.lo k (pos 0)))) → Stored c (k + 1) (set t k u)
+  stored_step u f e = record { each = λ i j. one i j (dec_lt i k); long = length-set t k u ∙ w.long }
     where
-      one : (i : ℕ) → i < k + 1 → Dec (i < k) → to_z w32 (get_or (set t (4 * n + k) u) (4 * n + i) 0) ≡ get_or c.lo i (pos 0)
-      one i j (yes y) = ap (to_z w32) (get_or-set_other t (4 * n + k) (4 * n + i) u 0 (λ z. omega arith)) ∙ w.each i y
+      one : (i : ℕ) → i < k + 1 → Dec (i < k) → to_z w32 (get_or (set t k u) i 0) ≡ get_or c.lo i (pos 0)
+      one i j (yes y) = ap (to_z w32) (get_or-set_other t k i u 0 (λ z. omega arith)) ∙ w.each i y
       one i j (no y) =
           let q : i ≡ k = omega arith in
           rw q
-          (ap (to_z w32) (get_or-set_same t (4 * n + k) u 0 stored_slot ∙ e ∙ ap (of_z w32) (kept (get_or c.lo k (pos 0)) f))
+          (ap (to_z w32) (get_or-set_same t k u 0 (omega (arith, w.long)) ∙ e ∙ ap (of_z w32) (kept (get_or c.lo k (pos 0)) f))
           ∙ kept (get_or c.lo k (pos 0)) f)
 
 -- all four do
-module _ (g : List Node) (qs : List Policy) (c : Conditions) (n k : ℕ) (t₀ t : List ℕ) (w : Stored c n k t₀ t) (f : four_numbers (node_at g n).variables ≡ true)
+module _ (g : List Node) (qs : List Policy) (n : ℕ) (c : Conditions) (k : ℕ) (t : List ℕ) (w : Stored c k t) (f : four_numbers (node_at g n).variables ≡ true)
     (e : ranges_in c ≡ combined g qs n) (l : 4 ≤ k) where
   abbrev vs : List Variable
   vs = (node_at g n).variables
 
-  value-at : is_some (least_each (ranges_in c)) ≡ true → (i : ℕ) → i < length vs → least (get_or (ranges_in c) i (mask 0)) ≡ some (value_of (get_or vs i no_variable) (get_or t (4 * n + i) 0))
+  value-at : is_some (least_each (ranges_in c)) ≡ true → (i : ℕ) → i < length vs → least (get_or (ranges_in c) i (mask 0)) ≡ some (value_of (get_or vs i no_variable) (get_or t i 0))
   unfolding least
   value-at q i h =
       let j : i < 4 = omega (arith, four-length vs f) in
       rw (range-in c i j, each-has c q i j)
-      (ap {B = Option ℤ} some (sym (number-value (get_or vs i no_variable) (get_or t (4 * n + i) 0) (number_at vs i (every-number vs f) h) ∙ w.each i (omega arith))))
+      (ap {B = Option ℤ} some (sym (number-value (get_or vs i no_variable) (get_or t i 0) (number_at vs i (every-number vs f) h) ∙ w.each i (omega arith))))
 
-  pub stored_exit : {r : Bool} → r ≡ is_some (least_each (ranges_in c)) → LeastIn g n (combined g qs n) t₀ t r
+  pub stored_exit : {r : Bool} → r ≡ is_some (least_each (ranges_in c)) → LeastIn g n (combined g qs n) t r
   unfolding ranges_in
   stored_exit {r} a =
       rw (← e)
       (record {
         found = a;
-        values = λ y. each-some vs (ranges_in c) t (4 * n) (sym (four-length vs f)) (value-at (sym a ∙ y));
-        others = w.outside.others;
-        long = w.outside.long;
+        values = λ y. values-some vs (ranges_in c) t (sym (four-length vs f)) (value-at (sym a ∙ y));
       })

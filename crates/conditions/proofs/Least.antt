@@ -1,7 +1,6 @@
 -- The least values left at a node: each variable's own, found one after the other; the first without one ends it.
 -- Rests on the model's `least`, on bits that are read back as the value, and on what the conditions at the offsets leave, in Rules.
 use mathlib.Core.Path.{◌≡◌, refl, ap, ap₂, sym, ◌∙◌}
-use mathlib.Core.Logic.{◌⊎◌, inl, inr}
 use mathlib.Core.Bool.{Bool, true, false, cond}
 use mathlib.Core.List.{List, [], ◌∷◌}
 use mathlib.Core.Option.{Option, none, some}
@@ -20,7 +19,7 @@ use Rattle.std.specs.Prelude.{None, Some}
 use Rattle.fields.proofs.Tests.{never}
 use Rattle.numbers.specs.Bits.{ones}
 use Rattle.numbers.specs.Lowest.{Lowest}
-use Rattle.schema.specs.Schema.{Node, schema_of, node_at, no_variable, variable_at, is_number}
+use Rattle.schema.specs.Schema.{Node, schema_of, node_at, no_variable, variable_at}
 use Rattle.schema.specs.Table.{AtMost}
 use Rattle.schema.specs.declared.Variable.{Variable}
 use Rattle.schema.specs.declared.Variable.TheVariants.{Number, Listed}
@@ -32,13 +31,13 @@ use Rattle.policies.specs.Rows.{rules_at, noted, offsets_in, RulesAt, BytesAt}
 use Rattle.policies.specs.declared.Policies.{Policies}
 use Rattle.policies.proofs.Nodes.{offset-first, offset-next}
 use Rattle.instances.specs.File.{value_of}
-use Rattle.instances.specs.Plan.{values_from, BitsRoom}
+use Rattle.instances.specs.Plan.{values_from}
 use Rattle.model.specs.Reconciling.{own, restrict_all, combined_from, combined, is_some, least, least_each, with_head}
 use Rattle.model.proofs.Values.{combined-at}
 use Rattle.conditions.specs.Least.{LeastIn, range_in, condition_of}
 use Rattle.conditions.specs.declared.Conditions.{Conditions}
 use Rattle.conditions.specs.Rules.{range_at, mask_at, condition_in, value_in, narrowed_by, size_of}
-use Rattle.conditions.proofs.Rules.{ConditionIn, ranges_bytes, ranges-left, masks_bytes, masks-left}
+use Rattle.conditions.proofs.Rules.{ConditionIn, conditions_bytes, conditions_left}
 use Rattle.conditions.proofs.Row.{row_combined}
 use Rattle.conditions.proofs.Narrowing.{kept}
 
@@ -59,7 +58,7 @@ each_none (c ∷ cs) (suc k) h e = rw (each_none cs k (omega arith) e) (go (leas
     go none = refl
     go (some x) = refl
 
-pub each-some : (vs : List Variable) (cs : List Condition) (t : List ℕ) (b : ℕ) → length cs ≡ length vs
+each-some : (vs : List Variable) (cs : List Condition) (t : List ℕ) (b : ℕ) → length cs ≡ length vs
     → ((k : ℕ) → k < length vs → least (get_or cs k (mask 0)) ≡ some (value_of (get_or vs k no_variable) (get_or t (b + k) 0)))
     → least_each cs ≡ some (values_from vs t b)
 unfolding least_each values_from
@@ -72,6 +71,12 @@ each-some (v ∷ vs) (c ∷ cs) t b l f =
     f (suc k) (omega arith)
     ∙ ap {B = Option ℤ} (λ (i : ℕ). some (value_of (get_or vs k no_variable) (get_or t i 0))) (let z : b + suc k ≡ b + 1 + k = omega arith in z)) in
     rw (x, y)
+
+pub values-some : (vs : List Variable) (cs : List Condition) (t : List ℕ) → length cs ≡ length vs
+    → ((k : ℕ) → k < length vs → least (get_or cs k (mask 0)) ≡ some (value_of (get_or vs k no_variable) (get_or t k 0)))
+    → least_each cs ≡ some (values_from vs t 0)
+values-some vs cs t l f =
+    each-some vs cs t 0 l (λ k h. f k h ∙ ap {B = Option ℤ} (λ (i : ℕ). some (value_of (get_or vs k no_variable) (get_or t i 0))) (sym (zero-add k)))
 
 -- ---- one variable: what the record holds of it, and the least value that is left
 
@@ -138,21 +143,6 @@ module _ (c : Conditions) (k : ℕ) (p : List ℕ) (skip : ℕ) (os : List ℕ) 
 
 -- ---- all of a node's
 
--- what stands outside the four slots of node n stays
-pub record Outside (n : ℕ) (t₀ t : List ℕ) : Type 0 where
-  pub others : (i : ℕ) → (i < 4 * n) ⊎ (4 * n + 4 ≤ i) → get_or t i 0 ≡ get_or t₀ i 0
-  pub long : length t ≡ length t₀
-
-pub outside-init : (n : ℕ) (t : List ℕ) → Outside n t t
-outside-init n t = record { others = λ i h. refl; long = refl }
-
-pub outside_set : (n : ℕ) (t₀ t : List ℕ) → Outside n t₀ t → (j x : ℕ) → 4 * n ≤ j → j < 4 * n + 4 → Outside n t₀ (set t j x)
-outside_set n t₀ t w j x l h = record { others = λ i a. get_or-set_other t j i x 0 (λ e. apart i a e) ∙ w.others i a; long = length-set t j x ∙ w.long }
-  where
-    apart : (i : ℕ) → (i < 4 * n) ⊎ (4 * n + 4 ≤ i) → i ≡ j → ⊥
-    apart i (inl a) e = omega arith
-    apart i (inr a) e = omega arith
-
 module _ (g : List Node) (qs : List Policy) (n : ℕ) where
   abbrev cs : List Condition
   cs = combined g qs n
@@ -164,16 +154,15 @@ module _ (g : List Node) (qs : List Policy) (n : ℕ) where
   unfolding combined
   long_as = combined-length qs n 0 vs
 
-  pub least_none : {t₀ t : List ℕ} → Outside n t₀ t → (k : ℕ) → k < length vs → least (get_or cs k (mask 0)) ≡ none → LeastIn g n cs t₀ t false
-  least_none w k h e =
+  pub least_none : (t : List ℕ) (k : ℕ) → k < length vs → least (get_or cs k (mask 0)) ≡ none → LeastIn g n cs t false
+  least_none t k h e =
       let q = each_none cs k (omega (arith, long_as)) e in
-      record { found = sym (ap is_some q); values = λ y. never y; others = w.others; long = w.long }
+      record { found = sym (ap is_some q); values = λ y. never y }
 
-  pub least_all : {t₀ t : List ℕ} → Outside n t₀ t
-      → ((k : ℕ) → k < length vs → least (get_or cs k (mask 0)) ≡ some (value_of (get_or vs k no_variable) (get_or t (4 * n + k) 0))) → LeastIn g n cs t₀ t true
-  least_all {t = t} w f =
-      let q = each-some vs cs t (4 * n) long_as f in
-      record { found = sym (ap is_some q); values = λ y. q; others = w.others; long = w.long }
+  pub least_all : (t : List ℕ) → ((k : ℕ) → k < length vs → least (get_or cs k (mask 0)) ≡ some (value_of (get_or vs k no_variable) (get_or t k 0))) → LeastIn g n cs t true
+  least_all t f =
+      let q = values-some vs cs t long_as f in
+      record { found = sym (ap is_some q); values = λ y. q }
 
 -- what an accepted schema says of a variable's size
 size-sound : (vs : List Variable) (k : ℕ) → SoundVariables vs → k < length vs → size_of (get_or vs k no_variable) ≤ 32
@@ -190,20 +179,20 @@ span_most (Listed size) = omega arith
 
 -- ---- the loop over a node's variables: those before k have their least values
 
-pub record Finding (g : List Node) (qs : List Policy) (n k skip : ℕ) (t₀ t : List ℕ) : Type 0 where
+pub record Finding (g : List Node) (qs : List Policy) (n k skip : ℕ) (t : List ℕ) : Type 0 where
   pub place : skip ≡ offset_of (node_at g n) k
   pub small : skip ≤ 8 + 8 * k
-  pub each : (i : ℕ) → i < k → least (get_or (combined g qs n) i (mask 0)) ≡ some (value_of (get_or (node_at g n).variables i no_variable) (get_or t (4 * n + i) 0))
-  pub outside : Outside n t₀ t
+  pub each : (i : ℕ) → i < k → least (get_or (combined g qs n) i (mask 0)) ≡ some (value_of (get_or (node_at g n).variables i no_variable) (get_or t i 0))
+  pub long : length t ≡ 4
 
-pub finding_init : (g : List Node) (qs : List Policy) (n : ℕ) (t : List ℕ) {skip : ℕ} → AtMost 8 (rank_count (node_at g n)) skip → Finding g qs n 0 skip t t
-finding_init g qs n t m = record { place = offset-first (node_at g n) m; small = omega (arith, m.most); each = λ i h. absurd (omega arith); outside = outside-init n t }
+pub finding_init : (g : List Node) (qs : List Policy) (n : ℕ) (t : List ℕ) {skip : ℕ} → length t ≡ 4 → AtMost 8 (rank_count (node_at g n)) skip → Finding g qs n 0 skip t
+finding_init g qs n t l m = record { place = offset-first (node_at g n) m; small = omega (arith, m.most); each = λ i h. absurd (omega arith); long = l }
 
 -- a node without variables has them all
-pub least_empty : (g : List Node) (qs : List Policy) (n : ℕ) (t : List ℕ) {v : ℕ} → AtMost 4 (length (node_at g n).variables) v → v ≡ 0 → LeastIn g n (combined g qs n) t t true
-least_empty g qs n t m e = least_all g qs n (outside-init n t) (λ i h. absurd (omega (arith, m.is)))
+pub least_empty : (g : List Node) (qs : List Policy) (n : ℕ) (t : List ℕ) {v : ℕ} → AtMost 4 (length (node_at g n).variables) v → v ≡ 0 → LeastIn g n (combined g qs n) t true
+least_empty g qs n t m e = least_all g qs n t (λ i h. absurd (omega (arith, m.is)))
 
-module _ (x : Policies) (n k skip : ℕ) (t₀ t : List ℕ) (h : n < length (schema_of x.schema.bytes.now)) (w : Finding (schema_of x.schema.bytes.now) (noted (schema_of x.schema.bytes.now) x.bytes.now x.rows.now) n k skip t₀ t)
+module _ (x : Policies) (n k skip : ℕ) (t : List ℕ) (h : n < length (schema_of x.schema.bytes.now)) (w : Finding (schema_of x.schema.bytes.now) (noted (schema_of x.schema.bytes.now) x.bytes.now x.rows.now) n k skip t)
     {c : ℕ} (m : AtMost 4 (length (node_at (schema_of x.schema.bytes.now) n).variables) c) where
   abbrev g : List Node
   g = schema_of x.schema.bytes.now
@@ -214,16 +203,12 @@ module _ (x : Policies) (n k skip : ℕ) (t₀ t : List ℕ) (h : n < length (sc
   abbrev qs : List Policy
   qs = noted g p x.rows.now
 
-  pub finding_exit : c ≤ k → LeastIn g n (combined g qs n) t₀ t true
-  finding_exit l = least_all g qs n w.outside (λ i h. w.each i (omega (arith, m.is)))
+  pub finding_exit : c ≤ k → LeastIn g n (combined g qs n) t true
+  finding_exit l = least_all g qs n t (λ i h. w.each i (omega (arith, m.is)))
 
   module _ (l : k < c) where
     below : k < length (node_at g n).variables
     below = omega (arith, m.is)
-
-    -- its slot
-    pub finding_slot : BitsRoom x.schema.bytes.now t₀ → 4 * n + k < length t
-    finding_slot room = omega (arith, w.outside.long, m.most, room.long, h)
 
     -- its condition ends inside a PN
     pub finding_fits : (v : Variable) (d : ℕ) → d ≡ span v → Fits w64 (skip + d)
@@ -235,50 +220,40 @@ module _ (x : Policies) (n k skip : ℕ) (t₀ t : List ℕ) (h : n < length (sc
       size_small = rw e (size-sound (node_at g n).variables k ((sound_of x.schema.bytes.now (let z = h in omega arith)).nodes n h).variables below)
 
       module _ (os : List ℕ) (i : os ≡ offsets_in x.rows.now n) (f : RulesAt g p n os) where
-        place : (t : Bool) → is_number v ≡ t → ConditionIn g n k skip t
-        place t q = record { below = below; type = ap is_number (sym e) ∙ q; place = w.place }
+        place : ConditionIn g n k skip v
+        place = record { below = below; is = e; place = w.place }
 
         pub condition_bytes : BytesAt p os (skip + span v)
-        unfolding span
-        condition_bytes = go v place
-          where
-            go : (v : Variable) → ((t : Bool) → is_number v ≡ t → ConditionIn g n k skip t) → BytesAt p os (skip + span v)
-            go (Number a b) c = ranges_bytes g p n os f k skip (c _ refl)
-            go (Listed size) c = masks_bytes g p n os f k skip (c _ refl)
+        condition_bytes = conditions_bytes g p n os f k skip v place
 
         this : get_or (combined g qs n) k (mask 0) ≡ narrowed_by (condition_in p skip v) os (own v)
-        unfolding combined condition_in
+        unfolding combined
         this =
             ap (λ (cs : List Condition). get_or cs k (mask 0)) (sym (row_combined x n h os i f))
             ∙ combined-at (rules_at g p n os) n 0 k (node_at g n).variables (mask 0) below
             ∙ ap₂ (λ (j : ℕ) (u : Variable). restrict_all (rules_at g p n os) n j (own u)) (zero-add k) (sym e)
-            ∙ sym (go v place)
-          where
-            go : (v : Variable) → ((t : Bool) → is_number v ≡ t → ConditionIn g n k skip t) → narrowed_by (condition_in p skip v) os (own v) ≡ restrict_all (rules_at g p n os) n k (own v)
-            go (Number a b) c = ranges-left g p n os f k skip (c _ refl) (own (Number a b))
-            go (Listed size) c = masks-left g p n os f k skip (c _ refl) (own (Listed size))
+            ∙ sym (conditions_left g p n os f k skip v place (own v))
 
-        pub finding_none : {d : Condition} → d ≡ narrowed_by (condition_in p skip v) os (own v) → value_in v None ≡ least d → LeastIn g n (combined g qs n) t₀ t false
+        pub finding_none : {d : Condition} → d ≡ narrowed_by (condition_in p skip v) os (own v) → value_in v None ≡ least d → LeastIn g n (combined g qs n) t false
         unfolding value_in
-        finding_none f q = least_none g qs n w.outside k below (ap least (this ∙ sym f) ∙ sym q)
+        finding_none f q = least_none g qs n t k below (ap least (this ∙ sym f) ∙ sym q)
 
-        pub finding_some : BitsRoom x.schema.bytes.now t₀ → {b : Condition} → b ≡ narrowed_by (condition_in p skip v) os (own v) → (u d : ℕ) → value_in v (Some u) ≡ least b → d ≡ span v
-            → Finding g qs n (k + 1) (skip + d) t₀ (set t (4 * n + k) u)
+        pub finding_some : {b : Condition} → b ≡ narrowed_by (condition_in p skip v) os (own v) → (u d : ℕ) → value_in v (Some u) ≡ least b → d ≡ span v
+            → Finding g qs n (k + 1) (skip + d) (set t k u)
         unfolding value_in
-        finding_some room f u d q z =
-            let a = m.most in
+        finding_some f u d q z =
             record {
               place = ap (λ (j : ℕ). skip + j) (z ∙ ap span e) ∙ offset-next (node_at g n) k w.place below;
               small = omega (arith, w.small, z, span_most v);
               each = λ i j. one i j (dec_lt i k);
-              outside = outside_set n t₀ t w.outside (4 * n + k) u (omega arith) (omega arith);
+              long = length-set t k u ∙ w.long;
             }
           where
-            one : (i : ℕ) → i < k + 1 → Dec (i < k) → least (get_or (combined g qs n) i (mask 0)) ≡ some (value_of (get_or (node_at g n).variables i no_variable) (get_or (set t (4 * n + k) u) (4 * n + i) 0))
+            one : (i : ℕ) → i < k + 1 → Dec (i < k) → least (get_or (combined g qs n) i (mask 0)) ≡ some (value_of (get_or (node_at g n).variables i no_variable) (get_or (set t k u) i 0))
             one i j (yes y) =
-                w.each i y ∙ ap {B = Option ℤ} (λ (j : ℕ). some (value_of (get_or (node_at g n).variables i no_variable) j)) (sym (get_or-set_other t (4 * n + k) (4 * n + i) u 0 (λ z. omega arith)))
+                w.each i y ∙ ap {B = Option ℤ} (λ (j : ℕ). some (value_of (get_or (node_at g n).variables i no_variable) j)) (sym (get_or-set_other t k i u 0 (λ z. omega arith)))
             one i j (no y) =
                 let s : i ≡ k = omega arith in
                 rw s
                 (ap least (this ∙ sym f) ∙ sym q
-                ∙ ap₂ {C = Option ℤ} (λ (v : Variable) (j : ℕ). some (value_of v j)) e (sym (get_or-set_same t (4 * n + k) u 0 (finding_slot room))))
+                ∙ ap₂ {C = Option ℤ} (λ (v : Variable) (j : ℕ). some (value_of v j)) e (sym (get_or-set_same t k u 0 (omega (arith, w.long, m.most)))))

@@ -1,6 +1,6 @@
 -- A node with four variables, all numbers: how that is told, and the loop over the offsets that narrows all four.
 -- Rests on the laws of one variable's turn, in Narrowing.
-use mathlib.Core.Path.{◌≡◌, refl, ap, sym, ◌∙◌}
+use mathlib.Core.Path.{◌≡◌, refl, ap, sym, subst, ◌∙◌}
 use mathlib.Core.Bool.{Bool, true, ◌&&◌}
 use mathlib.Core.List.{List, [], ◌∷◌}
 use Prim.Native.Nat.{ℕ, zero, suc, ◌+◌, ◌*◌, ◌^◌, ◌≤◌, ◌<◌}
@@ -16,11 +16,11 @@ use mir.Val.{Fits, to_z, of_z}
 use Rattle.fields.specs.Reading.{be, signed}
 use Rattle.fields.proofs.Tests.{and_no, and-true, never}
 use Rattle.schema.specs.Schema.{Node, schema_of, node_at, no_variable, variable_at, is_number}
-use Rattle.schema.specs.Table.{AtMost}
+use Rattle.schema.specs.Table.{layout_at, AtMost}
 use Rattle.schema.specs.declared.Variable.{Variable}
 use Rattle.schema.specs.declared.Variable.TheVariants.{Number, Listed}
 use Rattle.schema.specs.Layout.{rank_count, span, spans, offset_of, masks_of}
-use Rattle.schema.proofs.Access.{laid}
+use Rattle.schema.proofs.Access.{masks-is}
 use Rattle.nodes.specs.declared.Bounds.{Bounds}
 use Rattle.nodes.specs.declared.Schema.{Schema}
 use Rattle.policies.specs.Policies.{Condition, range, mask}
@@ -31,8 +31,8 @@ use Rattle.model.specs.Satisfaction.{every}
 use Rattle.model.specs.Reconciling.{own, both, restrict_all, combined}
 use Rattle.model.proofs.Values.{combined-at}
 use Rattle.conditions.specs.Least.{ranges_in}
-use Rattle.conditions.specs.Rules.{range_at, narrowed_by, four_numbers}
-use Rattle.conditions.proofs.Rules.{ConditionIn, ranges_bytes, ranges-left}
+use Rattle.conditions.specs.Rules.{range_at, condition_in, narrowed_by, four_numbers}
+use Rattle.conditions.proofs.Rules.{ConditionIn, conditions_bytes, conditions_left}
 use Rattle.conditions.proofs.Row.{row_combined}
 use Rattle.conditions.proofs.Least.{combined-length}
 use Rattle.conditions.proofs.Narrowing.{kept, range_step, narrowed_exit}
@@ -53,10 +53,10 @@ module _ (x : Schema) (n : ℕ) (h : n < length (schema_of x.bytes.now)) (v : �
   unfolding four_numbers
   four_other f = ne_eqb v 4 f ∙ sym (and_no (every is_number own_vs) (ne_eqb (length own_vs) 4 (λ e. f (m.is ∙ e))))
 
-  pub four_masks : v ≡ 4 → eqb (get_or x.table.now (16 * n + 6) 0) 0 ≡ four_numbers own_vs
+  pub four_masks : v ≡ 4 → eqb (layout_at x.layouts.now n).masks 0 ≡ four_numbers own_vs
   unfolding four_numbers
   four_masks e =
-      ap (λ (c : ℕ). eqb c 0) ((laid x.bytes.now x.table.now x.tabled).each n h).masks
+      ap (λ (c : ℕ). eqb c 0) (masks-is x.bytes.now x.layouts.now n x.tabled h)
       ∙ masks-none own_vs
       ∙ ap (λ (b : Bool). b && every is_number own_vs) (sym (eq-eqb (length own_vs) 4 (sym m.is ∙ e)))
 
@@ -104,6 +104,12 @@ abbrev Left : List Node → List ℕ → ℕ → List ℕ → ℕ → ℕ → Li
 Left g p n offsets skip r cs k =
     narrowed_by (range_at p (skip + 8 * k)) (drop r offsets) (get_or cs k (mask 0)) ≡ narrowed_by (range_at p (skip + 8 * k)) offsets (own (variable_at g n k))
 
+of-ranges : (p : List ℕ) (skip : ℕ) (v : Variable) → is_number v ≡ true → (os : List ℕ) (c : Condition) → narrowed_by (range_at p skip) os c ≡ narrowed_by (condition_in p skip v) os c
+unfolding narrowed_by condition_in
+of-ranges p skip (Number lo hi) e [] c = refl
+of-ranges p skip (Number lo hi) e (o ∷ os) c = of-ranges p skip (Number lo hi) e os (both c (range_at p skip o))
+of-ranges p skip (Listed size) e os c = never e
+
 pub below-four : (P : ℕ → Type 0) → P 0 → P 1 → P 2 → P 3 → (k : ℕ) → k < 4 → P k
 below-four P a b c d zero h = a
 below-four P a b c d (suc zero) h = b
@@ -139,15 +145,14 @@ module _ (g : List Node) (p : List ℕ) (n : ℕ) (offsets : List ℕ) (skip r :
   abbrev vs : List Variable
   vs = (node_at g n).variables
 
-  place : (k : ℕ) → k < 4 → ConditionIn g n k (skip + 8 * k) true
+  place : (k : ℕ) → k < 4 → ConditionIn g n k (skip + 8 * k) (variable_at g n k)
   unfolding offset_of
   place k l =
       let h = four_below vs k u.numbers l in
-      let e = every-number vs u.numbers in
       record {
         below = h;
-        type = number_at vs k e h;
-        place = omega (arith, u.first.is, spans-numbers vs k e (omega arith));
+        is = refl;
+        place = omega (arith, u.first.is, spans-numbers vs k (every-number vs u.numbers) (omega arith));
       }
 
   module _ (h : r < length offsets) (o : ℕ) (q : o ≡ get_or offsets r 0) where
@@ -155,7 +160,9 @@ module _ (g : List Node) (p : List ℕ) (n : ℕ) (offsets : List ℕ) (skip r :
     here_on = stretch p o
 
     last : BytesAt p offsets (skip + 24 + 8)
-    last = ranges_bytes g p n offsets u.rules 3 (skip + 24) (place 3 (omega arith))
+    last =
+        subst (λ (b : ℕ). BytesAt p offsets (skip + 24 + b)) (span-number (variable_at g n 3) (four_number vs 3 u.numbers (omega arith)))
+        (conditions_bytes g p n offsets u.rules 3 (skip + 24) (variable_at g n 3) (place 3 (omega arith)))
 
     pub four_inside : o ≤ length p
     four_inside = omega (arith, q, stretch_inside p offsets r (skip + 24 + 8) last h)
@@ -205,7 +212,8 @@ module _ (g : List Node) (p : List ℕ) (n : ℕ) (offsets : List ℕ) (skip r :
       combined-at (rules_at g p n offsets) n 0 k vs (mask 0) (four_below vs k u.numbers l)
       ∙ ap (λ (j : ℕ). restrict_all (rules_at g p n offsets) n j (own (variable_at g n k))) (zero-add k)
       ∙ sym (narrowed_exit (range_at p (skip + 8 * k)) offsets r (get_or (w ∷ x ∷ y ∷ z ∷ []) k (mask 0)) (u.each k l) h
-      ∙ ranges-left g p n offsets u.rules k (skip + 8 * k) (place k l) (own (variable_at g n k)))
+      ∙ of-ranges p (skip + 8 * k) (variable_at g n k) (four_number vs k u.numbers l) offsets (own (variable_at g n k))
+      ∙ conditions_left g p n offsets u.rules k (skip + 8 * k) (variable_at g n k) (place k l) (own (variable_at g n k)))
 
   four_is : length offsets ≤ r → w ∷ x ∷ y ∷ z ∷ [] ≡ combined g (rules_at g p n offsets) n
   unfolding combined

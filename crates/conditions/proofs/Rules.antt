@@ -1,7 +1,7 @@
 -- The conditions of the PN that are read at some offsets.
 -- Rests on what an accepted reading of a PN gives, on its own stretch of the file, in policies.
 use mathlib.Core.Path.{◌≡◌, refl, ap, ap₂, sym, subst, ◌∙◌}
-use mathlib.Core.Bool.{Bool, true, false, ◌&&◌}
+use mathlib.Core.Bool.{Bool, ◌&&◌}
 use mathlib.Core.List.{List, [], ◌∷◌}
 use mathlib.Core.Option.{Option, some}
 use Prim.Native.Nat.{ℕ, zero, suc, ◌+◌, ◌≤◌, ◌<◌}
@@ -9,28 +9,26 @@ use native.Mathlib.Omega.{arith}
 use native.Mathlib.Nat.{add-zero}
 use lib.ListN.{length, get_or, get_elem?, drop}
 use Rattle.std.specs.List.{list_all}
-use lib.IntN.{ℤ, pos}
-use Rattle.fields.specs.Reading.{be, signed}
-use Rattle.fields.proofs.Tests.{never}
-use Rattle.schema.specs.Schema.{Node, node_at, no_variable, is_number}
+use lib.IntN.{ℤ}
+use Rattle.schema.specs.Schema.{Node, node_at, no_variable}
 use Rattle.schema.specs.declared.Variable.{Variable}
 use Rattle.schema.specs.declared.Variable.TheVariants.{Number, Listed}
 use Rattle.schema.specs.Layout.{span, spans, offset_of}
-use Rattle.policies.specs.Policies.{Condition, range, mask, Rule, conditions_of, of_rules}
+use Rattle.policies.specs.Policies.{Condition, Rule, conditions_of, of_rules}
 use Rattle.policies.specs.Widths.{condition_width}
 use Rattle.policies.specs.Rows.{rule_at, rules_at, RuleAt, RulesAt, BytesAt}
 use Rattle.policies.proofs.Stands.{ConditionAt, width-span, ConditionsAt, none, more}
 use Rattle.policies.proofs.Rules.{rule-read, rule-room, own-rule, rules_bytes}
 use Rattle.model.specs.Satisfaction.{condition_at, admits, meets, admitted}
 use Rattle.model.specs.Reconciling.{both, restrict, restrict_all}
-use Rattle.conditions.specs.Rules.{range_at, mask_at, narrowed_by, in_range, in_mask, in_ranges, in_masks}
+use Rattle.conditions.specs.Rules.{range_at, mask_at, condition_in, narrowed_by}
 
 -- ---- the condition of one variable
 
--- variable k of node n is a number or a listed one, and its condition stands so far from the first rank
-pub record ConditionIn (g : List Node) (n k skip : ℕ) (number : Bool) : Type 0 where
+-- variable k of node n is v, and its condition stands so far from the first rank
+pub record ConditionIn (g : List Node) (n k skip : ℕ) (v : Variable) : Type 0 where
   pub below : k < length (node_at g n).variables
-  pub type : is_number (get_or (node_at g n).variables k no_variable) ≡ number
+  pub is : v ≡ get_or (node_at g n).variables k no_variable
   pub place : skip ≡ offset_of (node_at g n) k
 
 -- the k-th of conditions that stand somewhere
@@ -53,34 +51,24 @@ module _ (g : List Node) (p : List ℕ) (n o k skip : ℕ) (w : RuleAt g p n o) 
   abbrev set : Option Condition
   set = condition_at (of_rules (rule_at g p n o ∷ [])) n k
 
-  stands : {number : Bool} → ConditionIn g n k skip number → Kth (drop o p) skip (get_or (node_at g n).variables k no_variable) set
+  stands : {v : Variable} → ConditionIn g n k skip v → Kth (drop o p) skip v set
   unfolding condition_at conditions_of offset_of
-  stands c =
+  stands {v} c =
       let r = rule-read g p n o w in
-      subst (λ (x : Rule). Kth (drop o p) skip (get_or (node_at g n).variables k no_variable) (get_elem? x.conditions k)) (sym (own-rule g p n o w))
-      (subst (λ (i : ℕ). Kth (drop o p) i (get_or (node_at g n).variables k no_variable) (get_elem? (rule_at g p n o).conditions k))
+      subst (λ (x : Rule). Kth (drop o p) skip v (get_elem? x.conditions k)) (sym (own-rule g p n o w))
+      (subst (λ (i : ℕ). Kth (drop o p) i v (get_elem? (rule_at g p n o).conditions k))
       (let z : 0 + length (rule_at g p n o).ranks + spans k (node_at g n).variables ≡ skip = omega (arith, c.place, r.count) in z)
-      (kth r.conditions k c.below))
+      (subst (λ (u : Variable). Kth (drop o p) (0 + length (rule_at g p n o).ranks + spans k (node_at g n).variables) u (get_elem? (rule_at g p n o).conditions k)) (sym c.is)
+      (kth r.conditions k c.below)))
 
-  -- a number's bounds
-  range-read : ConditionIn g n k skip true → (set ≡ some (range_at p skip o)) × (o + (skip + 8) ≤ length p)
-  unfolding range_at
-  range-read c = let x = stands c in go (get_or (node_at g n).variables k no_variable) c.type x.what x.is x.stands
+  -- it is read where it stands
+  read : {v : Variable} → ConditionIn g n k skip v → (set ≡ some (condition_in p skip v o)) × (o + (skip + span v) ≤ length p)
+  unfolding condition_in range_at mask_at span
+  read {v} c = let x = stands c in go v x.what x.is x.stands
     where
-      go : (v : Variable) → is_number v ≡ true → (d : Condition) → set ≡ some d → ConditionAt (drop o p) skip v d
-          → (set ≡ some (range (signed (be 4 (drop o p) skip)) (signed (be 4 (drop o p) (skip + 4))))) × (o + (skip + 8) ≤ length p)
-      go (Number lo hi) t d i r = (i ∙ ap (λ (x : Condition). some x) r.is, rule-room g p n o w (skip + 8) r.inside)
-      go (Listed size) t d i r = never t
-
-  -- a listed variable's mask
-  mask-read : ConditionIn g n k skip false → (set ≡ some (mask_at p skip o)) × (o + (skip + 4) ≤ length p)
-  unfolding mask_at
-  mask-read c = let x = stands c in go (get_or (node_at g n).variables k no_variable) c.type x.what x.is x.stands
-    where
-      go : (v : Variable) → is_number v ≡ false → (d : Condition) → set ≡ some d → ConditionAt (drop o p) skip v d
-          → (set ≡ some (mask (be 4 (drop o p) skip))) × (o + (skip + 4) ≤ length p)
-      go (Number lo hi) t d i r = never (sym t)
-      go (Listed size) t d i r = (i ∙ ap (λ (x : Condition). some x) r.is, rule-room g p n o w (skip + 4) r.inside)
+      go : (v : Variable) (d : Condition) → set ≡ some d → ConditionAt (drop o p) skip v d → (set ≡ some (condition_in p skip v o)) × (o + (skip + span v) ≤ length p)
+      go (Number lo hi) d i r = (i ∙ ap (λ (x : Condition). some x) r.is, rule-room g p n o w (skip + 8) r.inside)
+      go (Listed size) d i r = (i ∙ ap (λ (x : Condition). some x) r.is, rule-room g p n o w (skip + 4) r.inside)
 
 -- ---- all offsets
 
@@ -101,26 +89,18 @@ rules-admit g p n k v x f [] e = refl
 rules-admit g p n k v x f (o ∷ os) e =
     ap₂ (λ (a b : Bool). a && b) (ap (λ (d : Option Condition). meets v d x) (sym (e 0 (omega arith)))) (rules-admit g p n k v x f os (λ r h. e (suc r) (omega arith)))
 
-module _ (g : List Node) (p : List ℕ) (n : ℕ) (offsets : List ℕ) (w : RulesAt g p n offsets) (k skip : ℕ) where
-  -- the condition of a number
-  pub ranges_bytes : ConditionIn g n k skip true → BytesAt p offsets (skip + 8)
-  ranges_bytes c = rules_bytes g p n offsets w (skip + 8) (λ r h. (range-read g p n (get_or offsets r 0) k skip (w.each r h) c).1)
+module _ (g : List Node) (p : List ℕ) (n : ℕ) (offsets : List ℕ) (w : RulesAt g p n offsets) (k skip : ℕ) (v : Variable) (i : ConditionIn g n k skip v) where
+  each-read : (r : ℕ) → r < length offsets → condition_at (of_rules (rule_at g p n (get_or offsets r 0) ∷ [])) n k ≡ some (condition_in p skip v (get_or offsets r 0))
+  each-read r h = (read g p n (get_or offsets r 0) k skip (w.each r h) i).0
 
-  pub ranges-left : ConditionIn g n k skip true → (c : Condition) → narrowed_by (range_at p skip) offsets c ≡ restrict_all (rules_at g p n offsets) n k c
-  ranges-left i = rules-narrow g p n k (range_at p skip) offsets (λ r h. (range-read g p n (get_or offsets r 0) k skip (w.each r h) i).0)
+  -- the bytes of the conditions
+  pub conditions_bytes : BytesAt p offsets (skip + span v)
+  conditions_bytes = rules_bytes g p n offsets w (skip + span v) (λ r h. (read g p n (get_or offsets r 0) k skip (w.each r h) i).1)
 
-  -- that of a listed variable
-  pub masks_bytes : ConditionIn g n k skip false → BytesAt p offsets (skip + 4)
-  masks_bytes c = rules_bytes g p n offsets w (skip + 4) (λ r h. (mask-read g p n (get_or offsets r 0) k skip (w.each r h) c).1)
-
-  pub masks-left : ConditionIn g n k skip false → (c : Condition) → narrowed_by (mask_at p skip) offsets c ≡ restrict_all (rules_at g p n offsets) n k c
-  masks-left i = rules-narrow g p n k (mask_at p skip) offsets (λ r h. (mask-read g p n (get_or offsets r 0) k skip (w.each r h) i).0)
+  -- what they leave
+  pub conditions_left : (c : Condition) → narrowed_by (condition_in p skip v) offsets c ≡ restrict_all (rules_at g p n offsets) n k c
+  conditions_left = rules-narrow g p n k (condition_in p skip v) offsets each-read
 
   -- which values they admit
-  pub ranges-admitted : ConditionIn g n k skip true → (lo hi x : ℤ) → in_ranges p skip offsets x ≡ admitted (rules_at g p n offsets) n k (Number lo hi) x
-  unfolding in_ranges in_range admits range_at
-  ranges-admitted i lo hi x = rules-admit g p n k (Number lo hi) x (range_at p skip) offsets (λ r h. (range-read g p n (get_or offsets r 0) k skip (w.each r h) i).0)
-
-  pub masks-admitted : ConditionIn g n k skip false → (size x : ℕ) → in_masks p skip offsets x ≡ admitted (rules_at g p n offsets) n k (Listed size) (pos x)
-  unfolding in_masks in_mask admits mask_at
-  masks-admitted i size x = rules-admit g p n k (Listed size) (pos x) (mask_at p skip) offsets (λ r h. (mask-read g p n (get_or offsets r 0) k skip (w.each r h) i).0)
+  pub conditions_admitted : (x : ℤ) → list_all (λ o. admits v (condition_in p skip v o) x) offsets ≡ admitted (rules_at g p n offsets) n k v x
+  conditions_admitted x = rules-admit g p n k v x (condition_in p skip v) offsets each-read

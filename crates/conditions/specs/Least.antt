@@ -1,20 +1,18 @@
 -- The least values that the combined conditions of a node leave, and the record of these conditions.
-use Rattle.std.specs.Prelude.{ℕ, ◌≤◌, ◌<◌, ◌≡◌, ◌⊎◌, Bool, true, List, [], ◌∷◌, length, get_or, pos}
+use Rattle.std.specs.Prelude.{ℕ, ◌≡◌, Bool, true, List, [], ◌∷◌, get_or, pos}
 use Rattle.std.proofs.Math.Option.{some}
 use Rattle.schema.specs.Schema.{Node, node_at}
 use Rattle.schema.specs.declared.Variable.{Variable}
 use Rattle.schema.specs.declared.Variable.TheVariants.{Number, Listed}
 use Rattle.policies.specs.Policies.{Condition, range, mask}
-use Rattle.instances.specs.Plan.{values_from, values_slot, value_slot}
+use Rattle.instances.specs.Plan.{values_from}
 use Rattle.model.specs.Reconciling.{is_some, least_each}
 use Rattle.conditions.specs.declared.Conditions.{Conditions}
 
--- r tells whether the conditions leave a value for each of node n's variables, and then its four slots have the bits of the least
-pub record LeastIn (g : List Node) (n : ℕ) (cs : List Condition) (t₀ t : List ℕ) (r : Bool) : Type 0 where
+-- r tells whether the conditions leave a value for each of node n's variables, and then these are the bits of the least
+pub record LeastIn (g : List Node) (n : ℕ) (cs : List Condition) (bits : List ℕ) (r : Bool) : Type 0 where
   pub found : r ≡ is_some (least_each cs)
-  pub values : r ≡ true → least_each cs ≡ some (values_from (node_at g n).variables t (values_slot n))
-  pub others : (i : ℕ) → (i < values_slot n) ⊎ (value_slot n 4 ≤ i) → get_or t i 0 ≡ get_or t₀ i 0
-  pub long : length t ≡ length t₀
+  pub values : r ≡ true → least_each cs ≡ some (values_from (node_at g n).variables bits 0)
 
 -- ---- for the contracts of functions that no other crate calls
 

@@ -2,8 +2,8 @@
 // PN leave, and which values these PN admit.
 #![tactic(auto)]
 
-ghost use Rattle.std.specs.Prelude.{◌≡◌, true, ◌+◌, ◌<◌, ◌≤◌, length, drop};
-ghost use Rattle.std.specs.List.{All};
+ghost use Rattle.std.specs.List.{All, list_all};
+ghost use Rattle.std.specs.Prelude.{ℕ, ◌≡◌, true, ◌+◌, ◌<◌, ◌≤◌, length};
 ghost use Rattle.fields.specs.Reading.{be, signed};
 ghost use Rattle.numbers.specs.Bits.{ones};
 ghost use Rattle.schema.specs.Schema.{schema_of, node_at, variable_at};
@@ -11,16 +11,15 @@ ghost use Rattle.schema.specs.Layout.{range_width, mask_width, span, offset_of};
 ghost use Rattle.policies.specs.Policies.{range, mask};
 ghost use Rattle.policies.specs.Rows.{noted, BytesAt};
 ghost use Rattle.instances.specs.File.{value_of};
-ghost use Rattle.instances.specs.Plan.{BitsRoom};
-ghost use Rattle.model.specs.Satisfaction.{admitted};
+ghost use Rattle.model.specs.Satisfaction.{admits, admitted};
 ghost use Rattle.model.specs.Reconciling.{own, both, combined, least, is_some, least_each};
 ghost use Rattle.conditions.specs.Least.{LeastIn, range_in, ranges_in, condition_of};
-ghost use Rattle.conditions.specs.Rules.{range_at, mask_at, condition_in, value_in, narrowed_by, size_of, in_range, in_ranges, in_mask, in_masks, four_numbers};
+ghost use Rattle.conditions.specs.Rules.{range_at, mask_at, condition_in, value_in, narrowed_by, size_of, four_numbers};
 
 use fields::BigEndian;
 use nodes::{Bounds, Schema};
 use policies::{Policies, RANGE_WIDTH};
-use schema::{MOST_VARIABLES, NODE_SLOTS, Variable};
+use schema::{MOST_VARIABLES, Variable};
 
 // How far the second, third and fourth of a node's ranges stand from the first.
 const SECOND: usize = RANGE_WIDTH;
@@ -75,13 +74,13 @@ fn narrow_mask(p: &[u8], offsets: &[u16], skip: usize, size: u8) -> u32
     mask
 }
 
-// Whether node n has four variables, all numbers: the table has how many are listed.
-#[tactic(auto, using(schema::proofs::Access::node_small, crate::proofs::Numbers::four_other, crate::proofs::Numbers::four_masks))]
+// Whether node n has four variables, all numbers: its layout has how many are listed.
+#[tactic(auto, using(nodes::proofs::Nodes::node_inside, crate::proofs::Numbers::four_other, crate::proofs::Numbers::four_masks))]
 fn has_four_numbers(schema: &Schema, n: usize) -> bool
     requires { n < length (schema_of schema.now.bytes.now) }
     ensures { result ≡ four_numbers (node_at (schema_of schema.now.bytes.now) n).variables }
 {
-    schema.variable_count(n) == MOST_VARIABLES && schema.table[NODE_SLOTS * n + 6] == 0
+    schema.variable_count(n) == MOST_VARIABLES && schema.layouts[n].masks == 0
 }
 
 impl Conditions {
@@ -115,7 +114,6 @@ impl Conditions {
     }
 
     // Whether variable k, a number, has a value left.
-    #[tactic(auto, using(crate::proofs::Least::number_left))]
     fn has_number(&self, k: usize) -> bool
         requires { k < 4 }
         ensures { result ≡ is_some (least (range_in self.now k)) }
@@ -181,28 +179,25 @@ fn combine_numbers(policies: &Policies, n: usize) -> Conditions
     }
 }
 
-// The bits of the least values of node n, which has four numbers, into its four slots; whether each has one left.
-#[tactic(auto, using(crate::proofs::FourLeast::stored_init, crate::proofs::FourLeast::stored_slot))]
-fn least_numbers(policies: &Policies, n: usize, bits: &mut [u32]) -> bool
+// The bits of the least values of node n, which has four numbers; whether each has one left.
+#[tactic(auto, using(crate::proofs::FourLeast::stored_init))]
+fn least_numbers(policies: &Policies, n: usize, bits: &mut [u32; MOST_VARIABLES]) -> bool
     requires n_in_bounds { n < length (schema_of policies.now.schema.bytes.now) }
     requires n_value { four_numbers (node_at (schema_of policies.now.schema.bytes.now) n).variables ≡ true }
-    requires bits_room { BitsRoom policies.now.schema.bytes.now bits.old }
-    ensures { LeastIn (schema_of policies.now.schema.bytes.now) n (combined (schema_of policies.now.schema.bytes.now) (noted (schema_of policies.now.schema.bytes.now) policies.now.bytes.now policies.now.rows.now) n) bits.old bits.new result }
+    ensures { LeastIn (schema_of policies.now.schema.bytes.now) n (combined (schema_of policies.now.schema.bytes.now) (noted (schema_of policies.now.schema.bytes.now) policies.now.bytes.now policies.now.rows.now) n) bits.new result }
 {
     let conditions = combine_numbers(policies, n);
-    let slot = MOST_VARIABLES * n;
     for k in 0..MOST_VARIABLES {
-        bits[slot + k] = conditions.lo[k].cast_unsigned();
+        bits[k] = conditions.lo[k].cast_unsigned();
     }
     conditions.have_numbers()
 }
 
-// The bits of node n's least values, found one after the other, into its four slots; whether each variable has one left.
-#[tactic(auto, using(crate::proofs::Least::finding_slot))]
-fn least_each(policies: &Policies, n: usize, bits: &mut [u32]) -> bool
-    requires n_in_bounds { n < length (schema_of policies.now.schema.bytes.now) }
-    requires bits_room { BitsRoom policies.now.schema.bytes.now bits.old }
-    ensures { LeastIn (schema_of policies.now.schema.bytes.now) n (combined (schema_of policies.now.schema.bytes.now) (noted (schema_of policies.now.schema.bytes.now) policies.now.bytes.now policies.now.rows.now) n) bits.old bits.new result }
+// The bits of node n's least values, found one after the other; whether each variable has one left.
+#[tactic(auto, using(instances::proofs::Slots::place_inside))]
+fn least_each(policies: &Policies, n: usize, bits: &mut [u32; MOST_VARIABLES]) -> bool
+    requires { n < length (schema_of policies.now.schema.bytes.now) }
+    ensures { LeastIn (schema_of policies.now.schema.bytes.now) n (combined (schema_of policies.now.schema.bytes.now) (noted (schema_of policies.now.schema.bytes.now) policies.now.bytes.now policies.now.rows.now) n) bits.new result }
 {
     let schema = &policies.schema;
     let offsets = policies.offsets(n);
@@ -216,7 +211,7 @@ fn least_each(policies: &Policies, n: usize, bits: &mut [u32]) -> bool
                 return false;
             }
             Some(u) => {
-                bits[MOST_VARIABLES * n + k] = u;
+                bits[k] = u;
             }
         }
         skip += policies::span(v);
@@ -224,12 +219,11 @@ fn least_each(policies: &Policies, n: usize, bits: &mut [u32]) -> bool
     true
 }
 
-// The bits of node n's least values, under all conditions, into its four slots; whether each variable has one left.
+// The bits of node n's least values, under all conditions; whether each variable has one left.
 #[tactic(auto, using(crate::proofs::Numbers::four_told))]
-pub fn least_values(policies: &Policies, n: usize, bits: &mut [u32]) -> bool
-    requires node_in { n < length (schema_of policies.now.schema.bytes.now) }
-    requires bits_room { BitsRoom policies.now.schema.bytes.now bits.old }
-    ensures { LeastIn (schema_of policies.now.schema.bytes.now) n (combined (schema_of policies.now.schema.bytes.now) (noted (schema_of policies.now.schema.bytes.now) policies.now.bytes.now policies.now.rows.now) n) bits.old bits.new result }
+pub fn least_values(policies: &Policies, n: usize, bits: &mut [u32; MOST_VARIABLES]) -> bool
+    requires { n < length (schema_of policies.now.schema.bytes.now) }
+    ensures { LeastIn (schema_of policies.now.schema.bytes.now) n (combined (schema_of policies.now.schema.bytes.now) (noted (schema_of policies.now.schema.bytes.now) policies.now.bytes.now policies.now.rows.now) n) bits.new result }
 {
     if policies.schema.variable_count(n) == 0 {
         return true;
@@ -240,62 +234,45 @@ pub fn least_values(policies: &Policies, n: usize, bits: &mut [u32]) -> bool
     least_each(policies, n, bits)
 }
 
-// Whether a number is admitted by the condition that stands so far from the first rank of the PN whose ranks begin at an offset.
-#[tactic(auto, using(crate::proofs::Admitting::range_below))]
-fn range_admits(p: &[u8], at: usize, skip: usize, x: i32) -> bool
-    requires { at + (skip + range_width) ≤ length p.now }
-    ensures { result ≡ in_range (drop at p.now) skip x }
+// Whether the condition of variable v that stands so far from the first rank of the PN whose ranks begin at an offset admits the
+// value with these bits.
+#[tactic(auto, unfolding(schema::specs::Layout::span))]
+fn condition_admits(p: &[u8], at: usize, skip: usize, v: Variable, bits: u32) -> bool
+    requires { at + (skip + span v) ≤ length p.now }
+    ensures { result ≡ admits v (condition_in p.now skip v at) (value_of v bits) }
 {
     let ranks = &p[at..];
-    i32::get(ranks, skip) <= x && x <= i32::get(ranks, skip + 4)
+    match v {
+        Variable::Number { .. } => {
+            let x = bits.cast_signed();
+            i32::get(ranks, skip) <= x && x <= i32::get(ranks, skip + 4)
+        }
+        Variable::Listed { .. } => {
+            let mask = u64::from(u32::get(ranks, skip));
+            bits < 32 && numbers::has(mask, bits as usize)
+        }
+    }
 }
 
-// The same of a listed variable's value.
-#[tactic(auto, using(crate::proofs::Admitting::mask_bits))]
-fn mask_admits(p: &[u8], at: usize, skip: usize, x: u32) -> bool
-    requires { at + (skip + mask_width) ≤ length p.now }
-    ensures { result ≡ in_mask (drop at p.now) skip x }
-{
-    let mask = u64::from(u32::get(&p[at..], skip));
-    x < 32 && numbers::has(mask, x as usize)
-}
-
-// Whether the conditions that stand so far from the offsets all admit a number.
-#[tactic(auto, unfolding(crate::specs::Rules::in_ranges))]
-fn ranges_admit(p: &[u8], offsets: &[u16], skip: usize, x: i32) -> bool
-    requires { All (λ o. o + (skip + range_width) ≤ length p.now) offsets.now }
-    ensures { result ≡ in_ranges p.now skip offsets.now x }
+// Whether those that stand so far from the offsets all do.
+fn conditions_admit(p: &[u8], offsets: &[u16], skip: usize, v: Variable, bits: u32) -> bool
+    requires { All (λ o. o + (skip + span v) ≤ length p.now) offsets.now }
+    ensures { result ≡ list_all (λ (o : ℕ). admits v (condition_in p.now skip v o) (value_of v bits)) offsets.now }
 {
     offsets
         .iter()
-        .all(|at| range_admits(p, usize::from(*at), skip, x))
-}
-
-// The same of a listed variable's value.
-#[tactic(auto, unfolding(crate::specs::Rules::in_masks))]
-fn masks_admit(p: &[u8], offsets: &[u16], skip: usize, x: u32) -> bool
-    requires { All (λ o. o + (skip + mask_width) ≤ length p.now) offsets.now }
-    ensures { result ≡ in_masks p.now skip offsets.now x }
-{
-    offsets
-        .iter()
-        .all(|at| mask_admits(p, usize::from(*at), skip, x))
+        .all(|at| condition_admits(p, usize::from(*at), skip, v, bits))
 }
 
 // Whether every policy that the rows note admits the value with these bits of node n's variable k, whose condition stands so
 // far from the first rank.
-#[tactic(auto, using(crate::proofs::Row::number_bytes, crate::proofs::Row::number_admitted, crate::proofs::Row::listed_bytes, crate::proofs::Row::listed_admitted))]
+#[tactic(auto, using(crate::proofs::Row::row_bytes))]
 pub fn is_admitted(policies: &Policies, n: usize, k: usize, skip: usize, bits: u32) -> bool
     requires node_in { n < length (schema_of policies.now.schema.bytes.now) }
     requires k_in_bounds { k < length (node_at (schema_of policies.now.schema.bytes.now) n).variables }
     requires skip_value { skip ≡ offset_of (node_at (schema_of policies.now.schema.bytes.now) n) k }
     ensures { result ≡ admitted (noted (schema_of policies.now.schema.bytes.now) policies.now.bytes.now policies.now.rows.now) n k (variable_at (schema_of policies.now.schema.bytes.now) n k) (value_of (variable_at (schema_of policies.now.schema.bytes.now) n k) bits) }
 {
-    let offsets = policies.offsets(n);
-    match policies.schema.variable(n, k) {
-        Variable::Number { .. } => {
-            ranges_admit(policies.bytes, offsets, skip, bits.cast_signed())
-        }
-        Variable::Listed { .. } => masks_admit(policies.bytes, offsets, skip, bits),
-    }
+    let v = policies.schema.variable(n, k);
+    conditions_admit(policies.bytes, policies.offsets(n), skip, v, bits)
 }

@@ -12,6 +12,7 @@ use Rattle.fields.specs.Outcomes.{Did, leaving, placed}
 use Rattle.fields.proofs.Bytes.{Bytes}
 use Rattle.schema.specs.Schema.{Node}
 use Rattle.instances.specs.File.{instance, encode}
+use Rattle.instances.specs.declared.Slot.{Slot}
 use Rattle.instances.proofs.RoundTrip.{read-encode}
 use Rattle.instance_reader.specs.Decoded.{YieldsInstance}
 use Rattle.instance_reader.proofs.Decoded.{an_instance}
@@ -26,9 +27,9 @@ deliver_fits file out h e i =
 
 -- ---- the instance that was read
 
-pub copied : (g : List Node) (s out choices bits : List ℕ) {x : Result ℕ Breach} {m : ℕ} {r : Answer} {c : List ℕ} → YieldsInstance g s choices bits x → x ≡ Ok m → Bytes s → Did (placed s out) r c
+pub copied : (g : List Node) (s out : List ℕ) {before slots : List Slot} {x : Result ℕ Breach} {m : ℕ} {r : Answer} {c : List ℕ} → YieldsInstance g s before slots x → x ≡ Ok m → Bytes s → Did (placed s out) r c
     → Did (judged (leaving out) 4 (instance g s) (λ i. placed (encode g i) out)) r c
 unfolding judged
-copied g s out choices bits {r = r} {c} w e b d =
-    let y = an_instance g s choices bits w e in
+copied g s out {r = r} {c} w e b d =
+    let y = an_instance g s w e in
     rw y.reads (subst (λ (z : List ℕ). Did (placed z out) r c) (sym (read-encode g s b y.reads)) d)

@@ -1,4 +1,5 @@
--- What the calls have of policies and pass: for each way that the reading can end, what a call then comes to, whatever it does. Rests on what rows note, and on lists of policies that say the same of every node.
+-- What the calls have of policies and pass: for each way that the reading can end, what a call then comes to, whatever it does.
+-- Rests on what rows note, and on lists of policies that say the same of every node.
 use mathlib.Core.Path.{◌≡◌, refl, ap, ap₂, sym, ◌∙◌, fun_ext}
 use mathlib.Core.List.{List}
 use Prim.Native.Nat.{ℕ, ◌≤◌}
@@ -13,11 +14,12 @@ use Rattle.fields.specs.declared.Fault.TheVariants.{Mark, Cut, NodeCount, Links,
 use Rattle.fields.specs.declared.Refusal.{Refusal}
 use Rattle.fields.proofs.Judged.{did-same, refused_did}
 use Rattle.schema.specs.Schema.{schema_of}
-use Rattle.schema.specs.Table.{Accepted, AtMost}
-use Rattle.schema.proofs.Accepted.{file-of}
+use Rattle.schema.specs.Table.{Accepted, RoomIn}
+use Rattle.schema.proofs.Fill.{nodes_in}
 use Rattle.policies.specs.Policies.{Policy, policies, policies_of}
 use Rattle.policies.specs.Pass.{pass, in_force, forced}
-use Rattle.policies.specs.Rows.{row_slot, RowsRoom, noted, Noted, rules_for}
+use Rattle.policies.specs.Rows.{no_policies, RowsRoom, noted, Noted, rules_for}
+use Rattle.policies.specs.declared.Row.{Row}
 use Rattle.policies.proofs.Noted.{rows-noted, rows-forced}
 use Rattle.instances.specs.Instance.{Entry as InstanceEntry}
 use Rattle.instances.specs.File.{instance}
@@ -30,21 +32,11 @@ use Rattle.inputs.specs.Inputs.{YieldsInForce}
 
 -- ---- room for the rows
 
-rows-room : (s : List ℕ) (k : ℕ) → row_slot (length (schema_of s)) ≤ k → RowsRoom s (replicate k 0)
-rows-room s k h =
-    let l = length-replicate {A = ℕ} k 0 in
-    record { blank = ap (λ (i : ℕ). replicate i 0) (sym l); long = omega (arith, l) }
-
-pub rows_64 : (s : List ℕ) → Accepted s → RowsRoom s (replicate 1088 0)
-rows_64 s a = rows-room s 1088 (omega (arith, (file-of s a.some).few))
-
--- of a schema of so many nodes
-module _ (s : List ℕ) {count : ℕ} (m : AtMost 64 (length (schema_of s)) count) where
-  pub rows_4 : count ≤ 4 → RowsRoom s (replicate 68 0)
-  rows_4 h = rows-room s 68 (omega (arith, m.is))
-
-  pub rows_16 : count ≤ 16 → RowsRoom s (replicate 272 0)
-  rows_16 h = rows-room s 272 (omega (arith, m.is))
+-- a row for each node
+pub rows_in : (s : List ℕ) (m : ℕ) → Accepted s → RoomIn s m → RowsRoom s (replicate m no_policies)
+rows_in s m a h =
+    let l = length-replicate {A = Row} m no_policies in
+    record { blank = ap (λ (i : ℕ). replicate i no_policies) (sym l); long = omega (arith, nodes_in s m a h, l) }
 
 -- ---- policies and pass
 
@@ -69,7 +61,7 @@ numbered Choice e = omega (arith, e)
 numbered Value e = omega (arith, e)
 numbered Forbidden e = omega (arith, e)
 
-module _ (s p : List ℕ) (a b : ℕ) (t : List ℕ) where
+module _ (s p : List ℕ) (a b : ℕ) (t : List Row) where
   -- a call refuses as the reading does
   module _ {x : Refusal} (w : YieldsInForce s p a b t (Err x)) where
     refused : {B : Type 0} (refuse : ℕ → ℕ → ℕ → B) (k : List Policy → B)

@@ -3,7 +3,6 @@
 use mathlib.Core.Path.{◌≡◌}
 use mathlib.Core.List.{List}
 use Prim.Native.Nat.{ℕ}
-use lib.ListN.{length}
 use Rattle.std.specs.Prelude.{Result, Ok, Err}
 use Rattle.fields.specs.Reading.{got, bad}
 use Rattle.fields.specs.Answers.{number, end_of, judged}
@@ -11,14 +10,15 @@ use Rattle.fields.specs.declared.Breach.{Breach}
 use Rattle.fields.specs.declared.Refusal.{Refusal}
 use Rattle.fields.specs.declared.File.TheVariants.{Policies as PoliciesFile, Pass as PassFile}
 use Rattle.fields.proofs.Reading.{stepped, stopped}
-use Rattle.schema.specs.Schema.{most_nodes, schema_of}
+use Rattle.schema.specs.Schema.{schema_of}
 use Rattle.policies.specs.Policies.{policies}
 use Rattle.policies.specs.Pass.{pass}
+use Rattle.policies.specs.declared.Row.{Row}
 use Rattle.policy_reader.specs.Answers.{YieldsPolicies}
 use Rattle.calls.specs.Inputs.{with_policies, with_pass, with_in_force}
 use Rattle.inputs.specs.Inputs.{YieldsInForce}
 
-module _ (s p : List ℕ) (a b : ℕ) (t : List ℕ) where
+module _ (s p : List ℕ) (a b : ℕ) (t : List Row) where
   pub policies_bad : {x : Breach} {r : Result Unit Refusal} → YieldsPolicies s p a b (Err x) t → r ≡ Err (record { fault = x.fault; file = PoliciesFile; offset = x.offset }) → YieldsInForce s p a b t r
   unfolding with_in_force with_policies judged
   policies_bad w h = record { answer = rw (h, stopped (policies (schema_of s) p) w.answer); rows = w.rows; long = w.long }

@@ -6,6 +6,7 @@ ghost use Rattle.inputs.specs.Inputs.{YieldsInForce};
 
 use fields::{File, Refusal};
 use nodes::Schema;
+use policies::Row;
 
 // Policies and pass, under an accepted schema: the rows note the policies in force.
 #[tactic(auto, using(crate::proofs::Reading::policies_bad, crate::proofs::Reading::pass_bad, crate::proofs::Reading::pass_ok))]
@@ -14,7 +15,7 @@ pub fn read_in_force(
     p: &[u8],
     a: u16,
     b: u16,
-    rows: &mut [u16],
+    rows: &mut [Row],
 ) -> Result<(), Refusal>
     requires { RowsRoom schema.now.bytes.now rows.old }
     ensures { YieldsInForce schema.now.bytes.now p.now a b rows.new result }

@@ -1,21 +1,22 @@
-// The reader of instance files: what it accepts it decodes, into the arrays of a plan.
+// The reader of instance files: what it accepts it decodes, into the slots of a plan.
 #![tactic(auto)]
 
-ghost use Rattle.std.specs.Prelude.{◌≡◌, ◌<◌, [], length, replicate};
+ghost use Rattle.std.specs.Prelude.{◌≡◌, ◌<◌, [], length};
 ghost use Rattle.fields.specs.Answers.{as_got};
 ghost use Rattle.fields.specs.Runs.{outcome, run_of};
 ghost use Rattle.numbers.specs.Bits.{bit};
-ghost use Rattle.schema.specs.Schema.{most_nodes, schema_of, node_at};
+ghost use Rattle.schema.specs.Schema.{schema_of, node_at};
 ghost use Rattle.instances.specs.Instance.{right_choice};
 ghost use Rattle.instances.specs.File.{value, values, entry_of, entries};
-ghost use Rattle.instances.specs.Plan.{values_slot, BitsRoom};
-ghost use Rattle.instance_reader.specs.Decoded.{YieldsInstance};
-ghost use Rattle.instance_reader.specs.Reader.{in_bits, fill_values, entry_where, entry_outcome, entry_run, Within, fill_entries, entries_outcome, emptied};
+ghost use Rattle.instances.specs.Plan.{SlotsRoom};
+ghost use Rattle.instance_reader.specs.Decoded.{fill_values, YieldsInstance};
+ghost use Rattle.instance_reader.specs.Reader.{in_bits, entry_where, entry_outcome, entry_run, Within, fill_entries, entries_outcome, emptied};
 
 use fields::{Breach, Fault};
+use instances::Slot;
 use nodes::Schema;
 use reading::{read, read_mark};
-use schema::{MOST_NODES, MOST_VARIABLES, Variable};
+use schema::{MOST_VARIABLES, Variable};
 
 // An entry's node, and the nodes that are due after it, as bits.
 #[derive(Clone, Copy)]
@@ -67,51 +68,49 @@ fn read_value(v: Variable, s: &[u8], at: usize) -> Result<(u32, usize), Breach>
     }
 }
 
-// Node n's values, their bits into its slots.
-#[tactic(auto, using(crate::proofs::Reader::values_init, crate::proofs::Reader::values_room, crate::proofs::Reader::values_same, crate::proofs::Reader::values_bad, crate::proofs::Reader::values_step, crate::proofs::Reader::values_exit))]
+// Node n's values, their bits into those of its slot.
+#[tactic(auto, using(crate::proofs::Reader::values_init, instances::proofs::Slots::place_inside, crate::proofs::Reader::values_bad, crate::proofs::Reader::values_step, crate::proofs::Reader::values_exit))]
 fn read_values(
     schema: &Schema,
     n: usize,
     s: &[u8],
     from: usize,
-    bits: &mut [u32],
+    bits: &mut [u32; MOST_VARIABLES],
 ) -> Result<usize, Breach>
-    requires node_in { n < length (schema_of schema.now.bytes.now) }
-    requires bits_room { BitsRoom schema.now.bytes.now bits.old }
-    ensures { outcome result bits.new ≡ run_of (fill_values (node_at (schema_of schema.now.bytes.now) n).variables (values_slot n)) (values s.now (node_at (schema_of schema.now.bytes.now) n).variables from) bits.old }
+    requires { n < length (schema_of schema.now.bytes.now) }
+    ensures { outcome result bits.new ≡ run_of (fill_values (node_at (schema_of schema.now.bytes.now) n).variables 0) (values s.now (node_at (schema_of schema.now.bytes.now) n).variables from) bits.old }
 {
     let mut at = from;
     for k in 0..schema.variable_count(n) {
         let v = schema.variable(n, k);
         let (u, next) = read_value(v, s, at)?;
-        bits[MOST_VARIABLES * n + k] = u;
+        bits[k] = u;
         at = next;
     }
     Ok(at)
 }
 
 // Node n's choice and values.
-#[tactic(auto, using(crate::proofs::Reader::rest_cut, crate::proofs::Reader::rest_value))]
+#[tactic(auto, using(instances::proofs::Slots::slot_inside, crate::proofs::Reader::rest_cut, crate::proofs::Reader::rest_value))]
 fn read_entry_of(
     schema: &Schema,
     n: usize,
     due: u64,
     s: &[u8],
     from: usize,
-    choices: &mut [u8; MOST_NODES],
-    bits: &mut [u32],
+    slots: &mut [Slot],
 ) -> Result<(Visit, usize), Breach>
     requires node_in { n < length (schema_of schema.now.bytes.now) }
-    requires choices_len { length choices.old ≡ most_nodes }
-    requires bits_room { BitsRoom schema.now.bytes.now bits.old }
-    ensures { entry_outcome result choices.new bits.new ≡ entry_run (schema_of schema.now.bytes.now) due (entry_of s.now (schema_of schema.now.bytes.now) n from) choices.old bits.old }
+    requires slots_room { SlotsRoom schema.now.bytes.now slots.old }
+    ensures { entry_outcome result slots.new ≡ entry_run (schema_of schema.now.bytes.now) due (entry_of s.now (schema_of schema.now.bytes.now) n from) slots.old }
 {
     let (choice, at) = read::<u8>(s, from)?;
     if !right_choice(schema, n, choice) {
         return Err(Breach::new(Fault::Choice, from));
     }
-    choices[n] = choice;
-    let next = read_values(schema, n, s, at, bits)?;
+    let mut bits = [0; MOST_VARIABLES];
+    let next = read_values(schema, n, s, at, &mut bits)?;
+    slots[n] = Slot { choice, bits };
     let due = instances::reach(schema, n, usize::from(choice), numbers::turned_bit(due, n));
     Ok((Visit { node: n, due }, next))
 }
@@ -123,13 +122,11 @@ fn read_entry(
     due: u64,
     s: &[u8],
     from: usize,
-    choices: &mut [u8; MOST_NODES],
-    bits: &mut [u32],
+    slots: &mut [Slot],
 ) -> Result<(Visit, usize), Breach>
     requires within { Within due (length (schema_of schema.now.bytes.now)) }
-    requires choices_len { length choices.old ≡ most_nodes }
-    requires bits_room { BitsRoom schema.now.bytes.now bits.old }
-    ensures { entry_outcome result choices.new bits.new ≡ entry_run (schema_of schema.now.bytes.now) due (entry_where s.now (schema_of schema.now.bytes.now) (bit due) from) choices.old bits.old }
+    requires slots_room { SlotsRoom schema.now.bytes.now slots.old }
+    ensures { entry_outcome result slots.new ≡ entry_run (schema_of schema.now.bytes.now) due (entry_where s.now (schema_of schema.now.bytes.now) (bit due) from) slots.old }
 {
     let at = read_mark(s, from, b"IN")?;
     let (node, next) = read::<u8>(s, at)?;
@@ -137,28 +134,26 @@ fn read_entry(
     if due == 0 || n != numbers::lowest(due) {
         return Err(Breach::new(Fault::Entry, at));
     }
-    read_entry_of(schema, n, due, s, next, choices, bits)
+    read_entry_of(schema, n, due, s, next, slots)
 }
 
 // m entries, each node once: the nodes that are due are the bits of a number, and so are, in the answer, those that have an entry.
-#[tactic(auto, using(crate::proofs::Reader::going_init, crate::proofs::Reader::going_within, crate::proofs::Reader::going_long, crate::proofs::Reader::going_room, crate::proofs::Reader::going_same, crate::proofs::Reader::going_after, crate::proofs::Reader::going_exit, crate::proofs::Reader::going_due, crate::proofs::Reader::going_bad, crate::proofs::Reader::going_step))]
+#[tactic(auto, using(crate::proofs::Reader::going_init, crate::proofs::Reader::going_within, crate::proofs::Reader::going_room, crate::proofs::Reader::going_same, crate::proofs::Reader::going_after, crate::proofs::Reader::going_exit, crate::proofs::Reader::going_due, crate::proofs::Reader::going_bad, crate::proofs::Reader::going_step))]
 fn read_entries(
     schema: &Schema,
     s: &[u8],
     m: u8,
     from: usize,
-    choices: &mut [u8; MOST_NODES],
-    bits: &mut [u32],
+    slots: &mut [Slot],
 ) -> Result<(u64, usize), Breach>
-    requires choices_len { length choices.old ≡ most_nodes }
-    requires bits_room { BitsRoom schema.now.bytes.now bits.old }
-    ensures { entries_outcome result choices.new bits.new ≡ run_of (fill_entries (schema_of schema.now.bytes.now)) (entries s.now (schema_of schema.now.bytes.now) m [] from) (emptied choices.old bits.old) }
+    requires { SlotsRoom schema.now.bytes.now slots.old }
+    ensures { entries_outcome result slots.new ≡ run_of (fill_entries (schema_of schema.now.bytes.now)) (entries s.now (schema_of schema.now.bytes.now) m [] from) (emptied slots.old) }
 {
     let mut due: u64 = 1;
     let mut nodes: u64 = 0;
     let mut at = from;
     for _turn in 0..m {
-        let (visit, next) = read_entry(schema, due, s, at, choices, bits)?;
+        let (visit, next) = read_entry(schema, due, s, at, slots)?;
         nodes = numbers::with(nodes, visit.node);
         due = visit.due;
         at = next;
@@ -170,20 +165,14 @@ fn read_entries(
 }
 
 // The whole file, against an accepted schema: the nodes that have an entry, as bits, with their choices and the bits of their
-// values in the arrays, which are lent.
-pub fn read_instance(
-    schema: &Schema,
-    s: &[u8],
-    choices: &mut [u8; MOST_NODES],
-    bits: &mut [u32],
-) -> Result<u64, Breach>
-    requires choices_value { choices.old ≡ replicate most_nodes 255 }
-    requires bits_room { BitsRoom schema.now.bytes.now bits.old }
-    ensures { YieldsInstance (schema_of schema.now.bytes.now) s.now choices.new bits.new result }
+// values in the slots, which are lent, whatever stands there.
+pub fn read_instance(schema: &Schema, s: &[u8], slots: &mut [Slot]) -> Result<u64, Breach>
+    requires { SlotsRoom schema.now.bytes.now slots.old }
+    ensures { YieldsInstance (schema_of schema.now.bytes.now) s.now slots.old slots.new result }
 {
     let at = read_mark(s, 0, b"IH")?;
     let (m, next) = read::<u8>(s, at)?;
-    let (nodes, end) = read_entries(schema, s, m, next, choices, bits)?;
+    let (nodes, end) = read_entries(schema, s, m, next, slots)?;
     if end < s.len() {
         return Err(Breach::new(Fault::Remainder, end));
     }

@@ -4,25 +4,24 @@ use mathlib.Core.Path.{◌≡◌, refl, ap, sym, ◌∙◌}
 use mathlib.Core.Logic.{◌⊎◌, inl, inr}
 use mathlib.Core.Bool.{Bool, true, false, cond, ◌||◌}
 use mathlib.Core.List.{List, [], ◌∷◌, ◌++◌}
-use Prim.Native.Nat.{ℕ, zero, suc, ◌+◌, ◌*◌, ◌^◌, ◌≤◌, ◌<◌}
+use Prim.Native.Nat.{ℕ, zero, suc, ◌+◌, ◌≤◌, ◌<◌}
 use native.Mathlib.Omega.{arith}
-use native.Mathlib.Decide.{dec_lt}
-use borrow.Author.Tests.{lt-ltb, le-ltb, eq-eqb, eqb-true}
-use lib.Bits.{or_lt}
+use borrow.Author.Tests.{eq-eqb, eqb-true}
 use lib.Dec.{eqb}
-use lib.Pow.{pow-lt}
 use lib.ListN.{length, get_or, length-append}
 use Rattle.fields.specs.Writing.{spell}
 use Rattle.fields.proofs.Bytes.{spell-length}
 use Rattle.fields.proofs.Tests.{never, is-not, or-true, or_right}
-use Rattle.numbers.specs.Bits.{bit, with, turned, cardinality}
-use Rattle.numbers.specs.Lowest.{Lowest}
-use Rattle.numbers.proofs.Bits.{no-bit, with-bit, turned-with, cardinality-with, tz-bit, tz-least}
+use Rattle.numbers.specs.Bits.{bit, cardinality}
+use Rattle.numbers.specs.Members.{members}
+use Rattle.numbers.proofs.Bits.{no-bit, with-bit, turned-with, cardinality-with}
+use Rattle.numbers.proofs.InTurn.{members_first}
 use Rattle.schema.specs.Schema.{Node, node_at}
 use Rattle.schema.specs.declared.Variable.{Variable}
 use Rattle.instances.specs.Instance.{Entry}
 use Rattle.instances.specs.File.{IH, reached, values_width, value_of, encode_value, encode_values, encode_entry, encode_entries, encode}
-use Rattle.instances.specs.Plan.{planned_from, planned, nodes_of, values_from, plan_of}
+use Rattle.instances.specs.Plan.{planned_from, planned, nodes_of, values_from, slot_at, plan_of}
+use Rattle.instances.specs.declared.Slot.{Slot}
 use Rattle.instances.proofs.Lengths.{value-width, entry_length}
 
 -- ---- bytes
@@ -37,14 +36,14 @@ values_length (v ∷ vs) bits j =
     let x = value_of v (get_or bits j 0) in
     omega (arith, length-append (encode_value v x) (values_bytes vs bits (j + 1)), value-width v x, values_length vs bits (j + 1))
 
-pub planned-length : (g : List Node) (choices bits : List ℕ) (n : ℕ) → length (encode_entry g (plan_of g choices bits n)) ≡ 4 + values_width (node_at g n).variables
+pub planned-length : (g : List Node) (slots : List Slot) (n : ℕ) → length (encode_entry g (plan_of g slots n)) ≡ 4 + values_width (node_at g n).variables
 unfolding plan_of
-planned-length g choices bits n = entry_length g (plan_of g choices bits n) ∙ ap (λ (k : ℕ). 4 + k) (values_length (node_at g n).variables bits (4 * n))
+planned-length g slots n = entry_length g (plan_of g slots n) ∙ ap (λ (k : ℕ). 4 + k) (values_length (node_at g n).variables (slot_at slots n).bits 0)
 
-pub entries-length : (g : List Node) (choices bits : List ℕ) (n : ℕ) (es : List Entry)
-    → length (encode_entries g (plan_of g choices bits n ∷ es)) ≡ 4 + values_width (node_at g n).variables + length (encode_entries g es)
+pub entries-length : (g : List Node) (slots : List Slot) (n : ℕ) (es : List Entry)
+    → length (encode_entries g (plan_of g slots n ∷ es)) ≡ 4 + values_width (node_at g n).variables + length (encode_entries g es)
 unfolding encode_entries
-entries-length g choices bits n es = omega (arith, length-append (encode_entry g (plan_of g choices bits n)) (encode_entries g es), planned-length g choices bits n)
+entries-length g slots n es = omega (arith, length-append (encode_entry g (plan_of g slots n)) (encode_entries g es), planned-length g slots n)
 
 pub head-length : (g : List Node) (i : List Entry) → length (encode g i) ≡ 3 + length (encode_entries g i)
 unfolding encode
@@ -58,19 +57,9 @@ head-length g i =
 abbrev pub Own : (ℕ → Entry) → Type 0
 Own plan = (n : ℕ) → (plan n).node ≡ n
 
-pub own : (g : List Node) (choices bits : List ℕ) → Own (plan_of g choices bits)
+pub own : (g : List Node) (slots : List Slot) → Own (plan_of g slots)
 unfolding plan_of
-own g choices bits n = refl
-
--- the nodes of any entries fit in 64 bits
-nodes-fit : (es : List Entry) → nodes_of es < 2 ^ 64
-unfolding nodes_of with
-nodes-fit [] = omega arith
-nodes-fit (e ∷ es) = go (nodes-fit es) (dec_lt e.node 64)
-  where
-    go : nodes_of es < 2 ^ 64 → Dec (e.node < 64) → with (nodes_of es) e.node < 2 ^ 64
-    go ih (yes h) = rw (lt-ltb e.node 64 h) (or_lt 64 (nodes_of es) (2 ^ e.node) ih (pow-lt h))
-    go ih (no h) = rw (le-ltb e.node 64 (omega arith)) ih
+own g slots n = refl
 
 -- entries of the plan, of ascending nodes from n on and below k
 pub data AscendingFrom (plan : ℕ → Entry) (k : ℕ) : ℕ → List Entry → Type 0 where
@@ -116,27 +105,16 @@ module _ (plan : ℕ → Entry) where
       first-set : bit (nodes_of (plan m ∷ es)) m ≡ true
       first-set = first_bit m m es h ∙ or_right (bit (nodes_of es) m) (eqb m m) (eq-eqb m m refl)
 
-      pub nodes-some : 0 < nodes_of (plan m ∷ es)
-      nodes-some = go (dec_lt 0 (nodes_of (plan m ∷ es)))
-        where
-          go : Dec (0 < nodes_of (plan m ∷ es)) → 0 < nodes_of (plan m ∷ es)
-          go (yes p) = p
-          go (no p) = let z : nodes_of (plan m ∷ es) ≡ 0 = omega arith in never (sym (no-bit m) ∙ ap (λ (x : ℕ). bit x m) (sym z) ∙ first-set)
-
-      -- the lowest bit is the first entry's
-      pub nodes-lowest : {r : ℕ} → AscendingFrom plan k (suc m) es → Lowest 64 (nodes_of (plan m ∷ es)) r → r ≡ m
-      nodes-lowest f e =
-          let whole = nodes_of (plan m ∷ es) in
-          omega (arith, e.is, tz-least 64 whole m first-set, nodes-from (more {n = m} m (omega arith) h f) _ (tz-bit 64 whole nodes-some (nodes-fit (plan m ∷ es))))
-
       -- it is none of the others
       first-new : AscendingFrom plan k (suc m) es → bit (nodes_of es) m ≡ false
       first-new f = is-not (bit (nodes_of es) m) (λ t. let z = nodes-from f m t in omega arith)
 
-      -- with it taken out, the others are left
-      pub nodes-others : AscendingFrom plan k (suc m) es → turned (nodes_of (plan m ∷ es)) m ≡ nodes_of es
+      -- the nodes are its own and those of the others
+      pub nodes-members : AscendingFrom plan k (suc m) es → members (nodes_of (plan m ∷ es)) ≡ m ∷ members (nodes_of es)
       unfolding nodes_of
-      nodes-others f = rw (mine m) (turned-with (nodes_of es) m (omega arith) (first-new f))
+      nodes-members f =
+          members_first (nodes_of (plan m ∷ es)) m (omega arith) first-set (nodes-from (more {n = m} m (omega arith) h f))
+          ∙ ap (λ (x : ℕ). m ∷ members x) (rw (mine m) (turned-with (nodes_of es) m (omega arith) (first-new f)))
 
       -- one more than the others
       pub nodes-more : AscendingFrom plan k (suc m) es → cardinality (nodes_of (plan m ∷ es)) ≡ suc (cardinality (nodes_of es))

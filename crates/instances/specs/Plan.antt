@@ -1,9 +1,10 @@
 -- The instance that a plan makes: a plan has an entry for each node, and those that are reached are taken.
-use Rattle.std.specs.Prelude.{ℕ, zero, suc, ◌+◌, ◌*◌, ◌≤◌, List, [], ◌∷◌, cond, length, get_or, ℤ}
+use Rattle.std.specs.Prelude.{ℕ, zero, suc, ◌+◌, ◌<◌, ◌≤◌, ◌≡◌, List, [], ◌∷◌, cond, length, get_or, ℤ}
 use Rattle.numbers.specs.Bits.{with}
 use Rattle.schema.specs.Schema.{Node, schema_of, node_at}
 use Rattle.schema.specs.declared.Variable.{Variable}
 use Rattle.instances.specs.Instance.{Entry}
+use Rattle.instances.specs.declared.Slot.{Slot}
 use Rattle.instances.specs.File.{reached, value_of}
 
 -- of k nodes from n on, those that the entries before them reach; es are the entries so far
@@ -25,22 +26,28 @@ unfoldable pub values_from : List Variable → List ℕ → ℕ → List ℤ
 values_from [] bits k = []
 values_from (v ∷ vs) bits k = value_of v (get_or bits k 0) ∷ values_from vs bits (k + 1)
 
--- the slot of a node's first value, and of its k-th
-abbrev pub values_slot : ℕ → ℕ
-values_slot n = 4 * n
+-- where there is no slot
+abbrev pub no_slot : Slot
+no_slot = record { choice = 0; bits = [] }
 
-abbrev pub value_slot : ℕ → ℕ → ℕ
-value_slot n k = values_slot n + k
+-- node n's slot
+abbrev pub slot_at : List Slot → ℕ → Slot
+slot_at slots n = get_or slots n no_slot
 
--- the plan that arrays hold: a choice for each node, and the bits of its values, four slots for each node
-unfoldable pub plan_of : List Node → List ℕ → List ℕ → ℕ → Entry
-plan_of g choices bits n =
-    record { node = n; choice = get_or choices n 0; values = values_from (node_at g n).variables bits (values_slot n) }
+-- the plan that slots hold, one for each node: its choice, and the bits of its values
+unfoldable pub plan_of : List Node → List Slot → ℕ → Entry
+plan_of g slots n =
+    record { node = n; choice = (slot_at slots n).choice; values = values_from (node_at g n).variables (slot_at slots n).bits 0 }
 
 -- the instance that they make under the schema file
-abbrev pub held : List ℕ → List ℕ → List ℕ → List Entry
-held schema choices bits = planned (schema_of schema) (plan_of (schema_of schema) choices bits)
+abbrev pub held : List ℕ → List Slot → List Entry
+held schema slots = planned (schema_of schema) (plan_of (schema_of schema) slots)
 
--- room for the bits of four values of each node, whatever stands there
-pub record BitsRoom (schema bits : List ℕ) : Type 0 where
-  pub long : values_slot (length (schema_of schema)) ≤ length bits
+-- a slot for each node, whatever stands there
+pub record SlotsRoom (schema : List ℕ) (slots : List Slot) : Type 0 where
+  pub long : length (schema_of schema) ≤ length slots
+
+-- and no choice is taken yet
+pub record Unchosen (schema : List ℕ) (slots : List Slot) : Type 0 where
+  pub room : SlotsRoom schema slots
+  pub none : (n : ℕ) → n < length (schema_of schema) → (slot_at slots n).choice ≡ 255

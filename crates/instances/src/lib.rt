@@ -23,6 +23,19 @@ pub const HEAD_WIDTH: usize = 3;
 pub const MOST_BYTES: usize = HEAD_WIDTH
     + MOST_NODES * (ENTRY_WIDTH + MOST_VARIABLES * NUMBER_WIDTH);
 
+// What is taken of a node: its choice, and the bits of its values.
+#[derive(Clone, Copy)]
+pub struct Slot {
+    pub bits: [u32; MOST_VARIABLES],
+    pub choice: u8,
+}
+
+// What a slot has where nothing is taken: there is no choice.
+pub const BLANK: Slot = Slot {
+    bits: [0; MOST_VARIABLES],
+    choice: 255,
+};
+
 // Whether a node is of kind 1 and has successors.
 pub fn chooses(schema: &Schema, n: usize) -> bool
     requires { n < length (schema_of schema.now.bytes.now) }

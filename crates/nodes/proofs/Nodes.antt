@@ -1,8 +1,8 @@
--- What an accepted schema's bytes and table tell of a node, at the places that the methods read.
+-- What an accepted schema's bytes and layouts tell of a node, at the places that the methods read.
 -- Rests on the laws of those places, in the schema's Access.
-use mathlib.Core.Path.{◌≡◌, sym, ◌∙◌}
+use mathlib.Core.Path.{◌≡◌, sym, subst, ◌∙◌}
 use mathlib.Core.Bool.{true}
-use Prim.Native.Nat.{ℕ, ◌+◌, ◌-◌, ◌*◌, ◌/◌, ◌%◌, ◌≤◌, ◌<◌}
+use Prim.Native.Nat.{ℕ, ◌+◌, ◌-◌, ◌≤◌, ◌<◌}
 use native.Mathlib.Omega.{arith}
 use lib.ListN.{length, get_or, take, drop, length-drop}
 use lib.Seq.{get_or-take, get_or-drop, length-take-le, ext_get_or}
@@ -12,8 +12,9 @@ use mir.Syntax.{w32}
 use Rattle.fields.specs.Reading.{be}
 use Rattle.schema.specs.Schema.{schema_of, node_at, variable_at, is_number}
 use Rattle.schema.specs.Layout.{rank_count}
-use Rattle.schema.specs.Table.{AtMost}
+use Rattle.schema.specs.Table.{node_width, layout_at, successor_set, AtMost}
 use Rattle.schema.specs.declared.Variable.TheVariants.{Number, Listed}
+use Rattle.schema.proofs.Node.{OneNode}
 use Rattle.schema.proofs.Access as access
 use Rattle.nodes.specs.declared.Schema.{Schema}
 
@@ -24,19 +25,25 @@ module _ (x : Schema) where
   pub count_is : {r : ℕ} → r ≡ get_or x.bytes.now 2 0 → AtMost 64 (length (schema_of x.bytes.now)) r
   count_is e = access.count_at x.bytes.now x.accepted e
 
+  pub node_inside : (n : ℕ) → n < length (schema_of x.bytes.now) → n < length x.layouts.now
+  node_inside n l = omega (arith, x.tabled.long)
+
 module _ (x : Schema) (n : ℕ) (l : n < length (schema_of x.bytes.now)) where
+  abbrev here : OneNode x.bytes.now (length (schema_of x.bytes.now)) n (layout_at x.layouts.now n).start (node_at (schema_of x.bytes.now) n) ((layout_at x.layouts.now n).start + node_width (node_at (schema_of x.bytes.now) n))
+  here = access.here x.bytes.now x.layouts.now n x.tabled l
+
   -- ---- its successors stand after their number, which is the fourth byte of its record
 
-  module _ {a : ℕ} (e : a ≡ get_or x.table.now (16 * n) 0) where
+  module _ {a : ℕ} (e : a ≡ (layout_at x.layouts.now n).start) where
     pub record_inside : a + 3 < length x.bytes.now
-    record_inside = let o = access.here x.bytes.now x.table.now n x.tabled l in omega (arith, e, o.inside)
+    record_inside = omega (arith, e, here.inside)
 
     module _ {k : ℕ} (f : k ≡ get_or x.bytes.now (a + 3) 0) where
       size_is : length (node_at (schema_of x.bytes.now) n).successors ≡ k
-      size_is = (access.here x.bytes.now x.table.now n x.tabled l).linked ∙ (rw (← e) (sym f))
+      size_is = here.linked ∙ (rw (← e) (sym f))
 
       pub successors_inside : a + 4 + k ≤ length x.bytes.now
-      successors_inside = let o = access.here x.bytes.now x.table.now n x.tabled l in omega (arith, e, o.inside, size_is)
+      successors_inside = omega (arith, e, here.inside, size_is)
 
       pub successors_are : take (a + 4 + k - (a + 4)) (drop (a + 4) x.bytes.now) ≡ (node_at (schema_of x.bytes.now) n).successors
       successors_are =
@@ -44,58 +51,62 @@ module _ (x : Schema) (n : ℕ) (l : n < length (schema_of x.bytes.now)) where
           let m : length (take k (drop (a + 4) x.bytes.now)) ≡ k = length-take-le k (drop (a + 4) x.bytes.now) (omega (arith, length-drop (a + 4) x.bytes.now, successors_inside)) in
           rw w (ext_get_or 0 (take k (drop (a + 4) x.bytes.now)) (node_at (schema_of x.bytes.now) n).successors (m ∙ sym size_is)
           (λ j h. get_or-take k (drop (a + 4) x.bytes.now) j 0 (omega (arith, m)) ∙ get_or-drop (a + 4) x.bytes.now j 0
-          ∙ (rw (← e) at (sym ((access.here x.bytes.now x.table.now n x.tabled l).links j (omega (arith, m, size_is)))))))
+          ∙ (rw (← e) at (sym (here.links j (omega (arith, m, size_is)))))))
 
-  -- ---- how many ranks and variables it has
+  -- ---- what its layout tells alone
 
-  pub ranks_are : {r : ℕ} → r ≡ get_or x.table.now (16 * n + 7) 0 → AtMost 8 (rank_count (node_at (schema_of x.bytes.now) n)) (r % 16)
-  ranks_are e = access.ranks-count x.bytes.now x.table.now n x.tabled l e
+  pub set_is : (layout_at x.layouts.now n).successors ≡ successor_set (node_at (schema_of x.bytes.now) n)
+  set_is = access.successors-set x.bytes.now x.layouts.now n x.tabled l
 
-  pub variables_are : {r : ℕ} → r ≡ get_or x.table.now (16 * n + 7) 0 → AtMost 4 (length (node_at (schema_of x.bytes.now) n).variables) (r / 16)
-  variables_are e = access.variables-count x.bytes.now x.table.now n x.tabled l e
+  pub ranks_are : {r : ℕ} → r ≡ (layout_at x.layouts.now n).ranks → AtMost 8 (rank_count (node_at (schema_of x.bytes.now) n)) r
+  ranks_are e = subst (AtMost 8 (rank_count (node_at (schema_of x.bytes.now) n))) (sym e) (access.ranks-count x.bytes.now x.layouts.now n x.tabled l)
+
+  pub variables_are : {r : ℕ} → r ≡ (layout_at x.layouts.now n).variable_count → AtMost 4 (length (node_at (schema_of x.bytes.now) n).variables) r
+  variables_are e = subst (AtMost 4 (length (node_at (schema_of x.bytes.now) n).variables)) (sym e) (access.variables-count x.bytes.now x.layouts.now n x.tabled l)
 
   -- ---- its variable k: the type, then the bounds or the size
 
   module _ (k : ℕ) (m : k < length (node_at (schema_of x.bytes.now) n).variables) where
-    pub slot_inside : 16 * n + 1 + k < length x.table.now
-    slot_inside = access.variable-small x.bytes.now x.table.now n k x.tabled l m
+    pub place_inside : k < 4
+    place_inside = omega (arith, access.variables_few x.bytes.now n l)
 
-    module _ {p : ℕ} (e : p ≡ get_or x.table.now (16 * n + 1 + k) 0) where
+    module _ {p : ℕ} (e : p ≡ get_or (layout_at x.layouts.now n).variables k 0) where
       pub type_inside : p < length x.bytes.now
-      type_inside = access.variable-inside x.bytes.now x.table.now n k x.tabled l m e
+      type_inside = access.variable-inside x.bytes.now x.layouts.now n k x.tabled l m e
 
       module _ (z : get_or x.bytes.now p 0 ≡ 0) where
         pub number_inside : p + 9 ≤ length x.bytes.now
-        number_inside = access.number-inside x.bytes.now x.table.now n k x.tabled l m e z
+        number_inside = access.number-inside x.bytes.now x.layouts.now n k x.tabled l m e z
 
         pub number_is : (lo hi : ℤ) → of_z w32 lo ≡ be 4 x.bytes.now (p + 1) → of_z w32 hi ≡ be 4 x.bytes.now (p + 5)
             → Number (to_z w32 (of_z w32 lo)) (to_z w32 (of_z w32 hi)) ≡ variable_at (schema_of x.bytes.now) n k
-        number_is = access.number_at x.bytes.now x.table.now n k x.tabled l m e z
+        number_is = access.number_at x.bytes.now x.layouts.now n k x.tabled l m e z
 
       module _ (z : get_or x.bytes.now p 0 ≡ 0 → ⊥) where
         pub listed_inside : p + 2 ≤ length x.bytes.now
-        listed_inside = access.listed-inside x.bytes.now x.table.now n k x.tabled l m e z
+        listed_inside = access.listed-inside x.bytes.now x.layouts.now n k x.tabled l m e z
 
         pub listed_is : Listed (get_or x.bytes.now (p + 1) 0) ≡ variable_at (schema_of x.bytes.now) n k
-        listed_is = access.listed_at x.bytes.now x.table.now n k x.tabled l m e z
+        listed_is = access.listed_at x.bytes.now x.layouts.now n k x.tabled l m e z
 
       -- where it is known to be a number
       module _ (q : is_number (variable_at (schema_of x.bytes.now) n k) ≡ true) where
         pub bounds_inside : p + 9 ≤ length x.bytes.now
-        bounds_inside = number_inside (access.type-zero x.bytes.now x.table.now n k x.tabled l m e q)
+        bounds_inside = number_inside (access.type-zero x.bytes.now x.layouts.now n k x.tabled l m e q)
 
         pub bounds_are : (lo hi : ℤ) → of_z w32 lo ≡ be 4 x.bytes.now (p + 1) → of_z w32 hi ≡ be 4 x.bytes.now (p + 5)
             → Number (to_z w32 (of_z w32 lo)) (to_z w32 (of_z w32 hi)) ≡ variable_at (schema_of x.bytes.now) n k
-        bounds_are = number_is (access.type-zero x.bytes.now x.table.now n k x.tabled l m e q)
+        bounds_are = number_is (access.type-zero x.bytes.now x.layouts.now n k x.tabled l m e q)
 
 -- for the methods; the others stand in their answers
 pub ruleset of_nodes = (
   count_inside,
   count_is,
+  node_inside,
   record_inside,
   successors_inside,
   successors_are,
-  slot_inside,
+  place_inside,
   type_inside,
   number_inside,
   listed_inside,

@@ -1,4 +1,4 @@
-// An accepted schema with its table, what it tells of its nodes, and the tables by their length.
+// An accepted schema with the layouts of its nodes, what it tells of them, and how many layouts a table has.
 #![tactic(auto, using(crate::proofs::Nodes::of_nodes))]
 
 ghost use Rattle.std.specs.Prelude.{ℕ, ◌≡◌, true, ◌<◌, length, get_or};
@@ -7,23 +7,16 @@ ghost use mir.Syntax.{w8};
 ghost use Rattle.schema.specs.Schema.{most_nodes, schema_of, node_at, variable_at, is_number};
 ghost use Rattle.schema.specs.declared.Variable.TheVariants.{Number};
 ghost use Rattle.schema.specs.Layout.{rank_count};
-ghost use Rattle.schema.specs.Table.{Accepted, Tabled, AtMost};
+ghost use Rattle.schema.specs.Table.{successor_set, Accepted, Tabled, AtMost};
 
 use fields::BigEndian;
-use schema::{MOST_NODES, NODE_SLOTS, Variable};
-
-// A table for any schema.
-pub const TABLE_SLOTS: usize = NODE_SLOTS * MOST_NODES;
+use schema::{Layout, Variable};
 
 // Few nodes have shorter tables, which are sooner cleared.
 pub const FEW_NODES: usize = 16;
 
-pub const FEW_TABLE_SLOTS: usize = NODE_SLOTS * FEW_NODES;
-
 // And so have the fewest.
 pub const FEWEST_NODES: usize = 4;
-
-pub const FEWEST_TABLE_SLOTS: usize = NODE_SLOTS * FEWEST_NODES;
 
 // The least and the greatest value of a number.
 #[derive(Clone, Copy)]
@@ -32,13 +25,13 @@ pub struct Bounds {
     pub hi: i32,
 }
 
-// An accepted schema: the bytes of its file, and the table that its reader filled.
+// An accepted schema: the bytes of its file, and the layouts that its reader filled.
 #[derive(Clone, Copy)]
 pub struct Schema<'a> {
     pub bytes: &'a [u8],
-    pub table: &'a [u16],
+    pub layouts: &'a [Layout],
     pub ghost accepted: { Accepted bytes.now },
-    pub ghost tabled: { Tabled bytes.now table.now },
+    pub ghost tabled: { Tabled bytes.now layouts.now },
     pub ghost bytes_fit: { (k : ℕ) → Fits w8 (get_or bytes.now k 0) },
 }
 
@@ -55,10 +48,18 @@ impl<'a> Schema<'a> {
         requires { n < length (schema_of self.now.bytes.now) }
         ensures { result.now ≡ (node_at (schema_of self.now.bytes.now) n).successors }
     {
-        let at = usize::from(self.table[NODE_SLOTS * n]);
+        let at = usize::from(self.layouts[n].start);
         let first = at + 4;
         let count = usize::from(self.bytes[at + 3]);
         &self.bytes[first..first + count]
+    }
+
+    // The same as a set.
+    pub fn successor_set(&self, n: usize) -> u64
+        requires { n < length (schema_of self.now.bytes.now) }
+        ensures { result ≡ successor_set (node_at (schema_of self.now.bytes.now) n) }
+    {
+        self.layouts[n].successors
     }
 
     // The number of node n's variables.
@@ -66,7 +67,7 @@ impl<'a> Schema<'a> {
         requires { n < length (schema_of self.now.bytes.now) }
         ensures { AtMost 4 (length (node_at (schema_of self.now.bytes.now) n).variables) result }
     {
-        usize::from(self.table[NODE_SLOTS * n + 7]) / 16
+        usize::from(self.layouts[n].variable_count)
     }
 
     // The number of ranks that node n has in a PN.
@@ -74,7 +75,7 @@ impl<'a> Schema<'a> {
         requires { n < length (schema_of self.now.bytes.now) }
         ensures { AtMost 8 (rank_count (node_at (schema_of self.now.bytes.now) n)) result }
     {
-        usize::from(self.table[NODE_SLOTS * n + 7]) % 16
+        usize::from(self.layouts[n].ranks)
     }
 
     // Node n's variable k.
@@ -83,7 +84,7 @@ impl<'a> Schema<'a> {
         requires k_in_bounds { k < length (node_at (schema_of self.now.bytes.now) n).variables }
         ensures { result ≡ variable_at (schema_of self.now.bytes.now) n k }
     {
-        let at = usize::from(self.table[NODE_SLOTS * n + 1 + k]);
+        let at = usize::from(self.layouts[n].variables[k]);
         if self.bytes[at] == 0 {
             return Variable::Number {
                 lo: i32::get(self.bytes, at + 1),
@@ -102,7 +103,7 @@ impl<'a> Schema<'a> {
         requires k_value { is_number (variable_at (schema_of self.now.bytes.now) n k) ≡ true }
         ensures { Number result.lo result.hi ≡ variable_at (schema_of self.now.bytes.now) n k }
     {
-        let at = usize::from(self.table[NODE_SLOTS * n + 1 + k]);
+        let at = usize::from(self.layouts[n].variables[k]);
         let lo = i32::get(self.bytes, at + 1);
         let hi = i32::get(self.bytes, at + 5);
         Bounds { lo, hi }

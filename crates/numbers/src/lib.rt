@@ -4,6 +4,8 @@
 ghost use Rattle.std.specs.Prelude.{◌≡◌, ◌*◌, ◌/◌, ◌^◌, ◌<◌, ◌≤◌, ltb};
 ghost use Rattle.numbers.specs.Bits.{bit, ones, with, turned, without, cardinality};
 ghost use Rattle.numbers.specs.Lowest.{Lowest};
+ghost use Rattle.numbers.specs.Members.{members, members_left};
+ghost use Rattle.std.specs.Iterator.{YieldsFirst, item_count};
 
 // Whether node n is in the set.
 pub fn has(m: u64, n: usize) -> bool
@@ -63,6 +65,36 @@ pub fn lowest(m: u64) -> usize
     ensures { Lowest 64 m result }
 {
     u64::trailing_zeros(m) as usize
+}
+
+// The members of a set that are left to go over, the lowest first.
+#[derive(Drop)]
+pub struct MembersLeft {
+    left: u64,
+}
+
+// The members of a set, to be gone over by a `for`.
+pub fn members(m: u64) -> MembersLeft
+    ensures { members_left result ≡ members m }
+{
+    MembersLeft { left: m }
+}
+
+impl Iterator for MembersLeft {
+    type Item = usize;
+
+    ghost next_gives = { YieldsFirst members_left };
+
+    ghost remaining = { item_count members_left };
+
+    fn next(&mut self) -> Option<usize> {
+        if self.left == 0 {
+            return None;
+        }
+        let n = lowest(self.left);
+        self.left = flip(self.left, n);
+        Some(n)
+    }
 }
 
 // The least value that a mask admits.

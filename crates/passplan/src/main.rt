@@ -141,19 +141,6 @@ fn read_records<R: Read>(input: &mut R, b: &mut [u8]) -> usize
     n + more
 }
 
-// Writes all of b, or up to the first write that fails or takes nothing.
-fn write_out<W: Write>(output: &mut W, b: &[u8]) -> Result<(), ErrorKind> {
-    let mut n: usize = 0;
-    while n < b.len() {
-        let more = output.write(&b[n..]).map_err(|e| e.kind())?;
-        if more == 0 {
-            return Err(ErrorKind::WriteZero);
-        }
-        n += more;
-    }
-    Ok(())
-}
-
 // Answers what input is there, and how many bytes it had: 0 where the run ends.
 fn turn(
     rt: &HostRuntime,
@@ -172,7 +159,7 @@ fn turn(
         ControlFlow::Continue(end) => (end, n),
         ControlFlow::Break(end) => (end, 0),
     };
-    write_out(&mut rt.stdout(), &out[..end])?;
+    rt.stdout().write_all(&out[..end]).map_err(|e| e.kind())?;
     Ok(read)
 }
 

@@ -13,13 +13,14 @@ use lib.ListN.{length}
 use Rattle.fields.proofs.Tests.{or_left, or_right}
 use Rattle.numbers.specs.Bits.{bit, with}
 use Rattle.numbers.proofs.Bits.{with-bit}
-use Rattle.schema.specs.Schema.{Node, schema_of}
+use Rattle.schema.specs.Schema.{Node, schema_of, node_at}
 use Rattle.schema.specs.Table.{Accepted}
 use Rattle.policies.specs.Policies.{Policy}
 use Rattle.policies.proofs.Nodes.{nodes-few}
 use Rattle.instances.specs.Instance.{Entry}
 use Rattle.instances.specs.File.{reached}
-use Rattle.instances.specs.Plan.{planned_from, planned, nodes_of, plan_of}
+use Rattle.instances.specs.Plan.{planned_from, planned, nodes_of, values_from, plan_of, Unchosen}
+use Rattle.instances.specs.declared.Slot.{Slot}
 use Rattle.model.specs.Reconciling.{can, plan, rules_of, reconcile, reconciled}
 use Rattle.planning.specs.Plan.{plan_for, Plans}
 use Rattle.planning.specs.Sweep.{Swept, Eligible, Reached}
@@ -57,36 +58,40 @@ module _ (g : List Node) (mine other : ℕ → Entry) (own : (n : ℕ) → (mine
 
 -- ---- the answer
 
-module _ (s : List ℕ) (qs : List Policy) (eligible bits : List ℕ) {feasible : ℕ} (A : Accepted s) (w : Swept s qs 0 feasible eligible bits) {b : Bool} (e : b ≡ bit feasible 0) where
+module _ (s : List ℕ) (qs : List Policy) (eligible : List ℕ) (slots₀ : List Slot) {feasible : ℕ} (A : Accepted s) (w : Swept s qs 0 feasible eligible slots₀) {b : Bool} (e : b ≡ bit feasible 0) where
   abbrev g : List Node
   g = schema_of s
 
   root_is : {t : Bool} → b ≡ t → can g (rules_of g qs) 0 ≡ t
   root_is q = sym (w.known 0 (omega arith) A.some) ∙ sym e ∙ q
 
+  pub answer_unchosen : Unchosen s slots₀
+  answer_unchosen = w.unchosen
+
   pub answer_eligible : b ≡ true → Eligible s qs eligible
   answer_eligible q = record { root = root_is q; some-nodes = A.some; each = λ m h. w.eligible-is m (omega arith) h; room = w.eligible-room }
 
   -- the root is feasible
-  pub plans_some : (choices : List ℕ) {nodes : ℕ} → b ≡ true → Reached g qs choices nodes → Plans g (reconciled g qs) choices bits (Some nodes)
+  pub plans_some : (slots : List Slot) {nodes : ℕ} → b ≡ true → Reached g qs slots₀ slots nodes → Plans g (reconciled g qs) slots (Some nodes)
   unfolding plan_for reconciled reconcile plan plan_of
-  plans_some choices {nodes} q d =
+  plans_some slots {nodes} q d =
       record {
         answer = rw (root_is q) (ap Some d.is);
         holds = λ i z. sym held ∙ some-injective (planned g (plan g (rules_of g qs))) i (rw (root_is q) at z);
       }
     where
-      agree : (m : ℕ) → bit nodes m ≡ true → plan g (rules_of g qs) m ≡ plan_of g choices bits m
+      agree : (m : ℕ) → bit nodes m ≡ true → plan g (rules_of g qs) m ≡ plan_of g slots m
       agree m t =
-          sym (ap₂ (λ (a : ℕ) (us : List ℤ). record { node = m; choice = a; values = us }) (d.chosen m t) (w.values m (omega arith) (d.below m t) (d.feasible m t)))
+          sym (ap₂ (λ (a : ℕ) (us : List ℤ). record { node = m; choice = a; values = us }) (d.chosen m t)
+          (ap (λ (us : List ℕ). values_from (node_at g m).variables us 0) (d.values m) ∙ w.values m (omega arith) (d.below m t) (d.feasible m t)))
 
-      held : planned g (plan g (rules_of g qs)) ≡ planned g (plan_of g choices bits)
-      held = planned-agree g (plan g (rules_of g qs)) (plan_of g choices bits) (λ n. refl) (nodes-few s) (λ m t. agree m (ap (λ (x : ℕ). bit x m) d.is ∙ t))
+      held : planned g (plan g (rules_of g qs)) ≡ planned g (plan_of g slots)
+      held = planned-agree g (plan g (rules_of g qs)) (plan_of g slots) (λ n. refl) (nodes-few s) (λ m t. agree m (ap (λ (x : ℕ). bit x m) d.is ∙ t))
 
   -- or it is not
-  pub plans_none : (choices : List ℕ) → b ≡ false → Plans g (reconciled g qs) choices bits None
+  pub plans_none : b ≡ false → Plans g (reconciled g qs) slots₀ None
   unfolding plan_for reconciled reconcile
-  plans_none choices q =
+  plans_none q =
       record {
         answer = rw (root_is q) refl;
         holds = λ i z. let y : none ≡ some i = rw (root_is q) at z in absurd (let k : ◌≡◌ {A = ℕ} 0 1 = cc in omega arith);

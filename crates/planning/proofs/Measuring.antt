@@ -19,6 +19,7 @@ use Rattle.schema.proofs.Sound.{Sound}
 use Rattle.instances.specs.Instance.{Entry}
 use Rattle.instances.specs.File.{most_bytes, values_width, encode_entry, encode_entries, encode}
 use Rattle.instances.specs.Plan.{planned, nodes_of, plan_of}
+use Rattle.instances.specs.declared.Slot.{Slot}
 use Rattle.instances.proofs.Lengths.{entry-most}
 use Rattle.instances.proofs.Entries.{planned-length, head-length, Own, own, AscendingFrom, none, more, planned-ascending, nodes-from}
 use Rattle.planning.specs.Plan.{entries_length, file_length}
@@ -114,16 +115,16 @@ module _ (g : List Node) where
         length-append (encode_entry g (plan m)) (encode_entries g es),
       )
 
-  pub file-length-is : length g ≤ 64 → (choices bits : List ℕ) → file_length g (nodes_of (planned g (plan_of g choices bits))) ≡ length (encode g (planned g (plan_of g choices bits)))
+  pub file-length-is : length g ≤ 64 → (slots : List Slot) → file_length g (nodes_of (planned g (plan_of g slots))) ≡ length (encode g (planned g (plan_of g slots)))
   unfolding file_length
-  file-length-is h choices bits =
-      let plan = plan_of g choices bits in
-      omega (arith, head-length g (planned g plan), entries-sum plan (own g choices bits) h (planned-length g choices bits) (planned-ascending plan g))
+  file-length-is h slots =
+      let plan = plan_of g slots in
+      omega (arith, head-length g (planned g plan), entries-sum plan (own g slots) h (planned-length g slots) (planned-ascending plan g))
 
   -- and none is longer
   module _ (S : Sound g) (nodes : ℕ) where
     entry-width : (n : ℕ) (b : Bool) → cond b (width n) 0 ≤ 20
-    entry-width n true = omega (arith, planned-length g [] [] n, entry-most g S (plan_of g [] [] n))
+    entry-width n true = omega (arith, planned-length g [] n, entry-most g S (plan_of g [] n))
     entry-width n false = omega arith
 
     sum-most : (n : ℕ) → entries_length g nodes n ≤ 20 * n

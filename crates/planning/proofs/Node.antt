@@ -5,7 +5,7 @@ use mathlib.Core.Bool.{Bool, true, false, not, ◌&&◌, ◌||◌}
 use mathlib.Core.List.{List, []}
 use mathlib.Core.Option
 use mathlib.Core.Option.{Option, none, some}
-use Prim.Native.Nat.{ℕ, ◌*◌, ◌≤◌, ◌<◌}
+use Prim.Native.Nat.{ℕ, ◌≤◌, ◌<◌}
 use native.Mathlib.Omega.{arith}
 use borrow.Author.Tests.{eq-eqb, ne_eqb, eqb-true}
 use lib.Bits.{bit_and}
@@ -19,7 +19,7 @@ use Rattle.fields.proofs.Tests.{and_yes, and-true, never, alike}
 use Rattle.numbers.specs.Bits.{bit, with_all}
 use Rattle.numbers.proofs.Bits.{no-bit, all-bit, both-bit, no_bits, subset-in, in-subset}
 use Rattle.schema.specs.Schema.{Node, schema_of, node_at}
-use Rattle.schema.specs.Table.{SetsIn}
+use Rattle.schema.specs.Table.{successor_set}
 use Rattle.schema.proofs.Sound.{Sound}
 use Rattle.schema.proofs.Accepted.{sound_of}
 use Rattle.policies.specs.Policies.{Policy}
@@ -105,7 +105,7 @@ module _ (g : List Node) (A : Sound g) (qs : List Policy) (n feasible : ℕ) whe
 
 -- ---- the node
 
-module _ (schema : List ℕ) (qs : List Policy) (n feasible : ℕ) (eligible bits₀ bits : List ℕ) (h : n < length (schema_of schema)) where
+module _ (schema : List ℕ) (qs : List Policy) (n feasible : ℕ) (eligible bits : List ℕ) (h : n < length (schema_of schema)) where
   abbrev g : List Node
   g = schema_of schema
 
@@ -113,30 +113,24 @@ module _ (schema : List ℕ) (qs : List Policy) (n feasible : ℕ) (eligible bit
   rules = rules_of g qs
 
   -- no value left
-  pub node_nothing : {r : Bool} → LeastIn g n (combined g qs n) bits₀ bits r → r ≡ false → NodePlanned g qs n feasible eligible eligible bits₀ bits false
+  pub node_nothing : {r : Bool} → LeastIn g n (combined g qs n) bits r → r ≡ false → NodePlanned g qs n feasible eligible eligible bits false
   unfolding can_step
   node_nothing {r} w e =
       let z : is_some (rules.least n) ≡ false = sym w.found ∙ e in
-      record { is = rw z; eligible-is = λ q. never q; eligible-others = λ m v. refl; eligible-long = refl; values = λ q. never q; others = w.others; long = w.long }
+      record { is = rw z; eligible-is = λ q. never q; eligible-others = λ m v. refl; eligible-long = refl; values = λ q. never q }
 
-  module _ {r : Bool} (w : LeastIn g n (combined g qs n) bits₀ bits r) (e : r ≡ true) where
+  module _ {r : Bool} (w : LeastIn g n (combined g qs n) bits r) (e : r ≡ true) where
     A : Sound g
     A = sound_of schema (omega arith)
 
     left : is_some (rules.least n) ≡ true
     left = sym w.found ∙ e
 
-    values-are : values_from (node_at g n).variables bits (4 * n) ≡ Option.get_or (rules.least n) []
+    values-are : values_from (node_at g n).variables bits 0 ≡ Option.get_or (rules.least n) []
     values-are = sym (ap (λ (o : Option (List ℤ)). Option.get_or o []) (w.values e))
 
-    module _ (sets : List ℕ) (v : SetsIn schema sets) {q : Bool} (i : q ≡ chooses (node_at g n)) where
-      abbrev s : ℕ
-      s = get_or sets n 0
-
-      is_set : s ≡ with_all 0 (node_at g n).successors
-      is_set = v.each n h
-
-      pub node_choose : {k : ℕ} → q ≡ true → EligibleRoom schema eligible → Allowed g qs n (bit_and s feasible) k → NodePlanned g qs n feasible eligible (set eligible n k) bits₀ bits (not (eqb k 0))
+    module _ {s : ℕ} (is_set : s ≡ successor_set (node_at g n)) {q : Bool} (i : q ≡ chooses (node_at g n)) where
+      pub node_choose : {k : ℕ} → q ≡ true → EligibleRoom schema eligible → Allowed g qs n (bit_and s feasible) k → NodePlanned g qs n feasible eligible (set eligible n k) bits (not (eqb k 0))
       unfolding can_step
       node_choose {k} t l d =
           let u : chooses (node_at g n) ≡ true = sym i ∙ t in
@@ -146,11 +140,9 @@ module _ (schema : List ℕ) (qs : List Policy) (n feasible : ℕ) (eligible bit
             eligible-others = λ m z. get_or-set_other eligible n m k 0 z;
             eligible-long = length-set eligible n k;
             values = λ _. values-are;
-            others = w.others;
-            long = w.long;
           }
 
-      pub node_all : q ≡ false → NodePlanned g qs n feasible eligible eligible bits₀ bits (eqb (bit_and s feasible) s)
+      pub node_all : q ≡ false → NodePlanned g qs n feasible eligible eligible bits (eqb (bit_and s feasible) s)
       unfolding can_step
       node_all t =
           let u : chooses (node_at g n) ≡ false = sym i ∙ t in
@@ -160,6 +152,4 @@ module _ (schema : List ℕ) (qs : List Policy) (n feasible : ℕ) (eligible bit
             eligible-others = λ m z. refl;
             eligible-long = refl;
             values = λ _. values-are;
-            others = w.others;
-            long = w.long;
           }

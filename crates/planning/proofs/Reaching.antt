@@ -9,24 +9,26 @@ use mathlib.Core.Option.{Option, none, some, some-injective}
 use Prim.Native.Nat.{ℕ, zero, suc, ◌+◌, ◌-◌, ◌≤◌, ◌<◌}
 use native.Mathlib.Omega.{arith}
 use native.Mathlib.Nat.{add-zero}
+use native.Mathlib.Decide.{ℕ_discrete}
 use borrow.Author.Tests.{eq-eqb, ne_eqb, eqb-true}
 use lib.Bits.{bit_or}
 use lib.Count.{count_trailing_zeros}
 use lib.Dec.{eqb}
-use lib.ListN.{length, get_or, replicate, set, length-set, length-replicate, get_or-replicate}
+use lib.ListN.{length, get_or, set, length-set}
 use lib.Seq.{get_or-set_same, get_or-set_other}
 use Rattle.fields.proofs.Tests.{and-true, or-true, not_yes, never}
 use Rattle.numbers.specs.Bits.{bit, with, turned}
 use Rattle.numbers.specs.Lowest.{Lowest}
 use Rattle.numbers.proofs.Bits.{pow-bit, no-bit, with-bit, turned_bit, or-bit, lowest-bit, tz-least, tz-above, bits-same}
 use Rattle.schema.specs.Schema.{Node, schema_of, node_at}
-use Rattle.schema.specs.Table.{SetsIn}
+use Rattle.schema.specs.Table.{successor_set}
 use Rattle.schema.proofs.Sound.{Sound}
 use Rattle.schema.proofs.Accepted.{sound_of}
 use Rattle.policies.specs.Policies.{Policy}
 use Rattle.instances.specs.Instance.{Entry, elem, chooses, reaches}
 use Rattle.instances.specs.File.{reached}
-use Rattle.instances.specs.Plan.{planned_from, planned, nodes_of}
+use Rattle.instances.specs.Plan.{planned_from, planned, nodes_of, no_slot, slot_at, Unchosen}
+use Rattle.instances.specs.declared.Slot.{Slot}
 use Rattle.instances.proofs.Valid.{successor-in}
 use Rattle.model.specs.Satisfaction.{every}
 use Rattle.model.specs.Reconciling.{Rules, is_some, best, taken, can_step, can, plan, rules_of}
@@ -94,7 +96,7 @@ module _ (g : List Node) (plan : ℕ → Entry) (es : List Entry) where
 -- ---- the nodes in turn
 
 -- of the nodes before `at` these have an entry; es are the entries so far, and what they reach from there on is left
-pub record Choosing (g : List Node) (qs : List Policy) (choices : List ℕ) (left nodes : ℕ) : Type 0 where
+pub record Choosing (g : List Node) (qs : List Policy) (slots₀ slots : List Slot) (left nodes : ℕ) : Type 0 where
   pub at : ℕ
   pub es : List Entry
   pub upto : at ≤ length g
@@ -105,13 +107,14 @@ pub record Choosing (g : List Node) (qs : List Policy) (choices : List ℕ) (lef
   pub joined : (j : ℕ) → bit nodes j || bit (nodes_of (rest_of g (plan g (rules_of g qs)) at es)) j ≡ bit (nodes_of (planned g (plan g (rules_of g qs)))) j
   pub before : (j : ℕ) → bit nodes j ≡ true → j < at
   pub taken-feasible : (j : ℕ) → bit nodes j ≡ true → can g (rules_of g qs) j ≡ true
-  pub chosen : (j : ℕ) → bit nodes j ≡ true → get_or choices j 0 ≡ (plan g (rules_of g qs) j).choice
-  pub blank : (j : ℕ) → at ≤ j → j < 64 → get_or choices j 0 ≡ 255
-  pub long : length choices ≡ 64
+  pub chosen : (j : ℕ) → bit nodes j ≡ true → (slot_at slots j).choice ≡ (plan g (rules_of g qs) j).choice
+  pub blank : (j : ℕ) → at ≤ j → j < length g → (slot_at slots j).choice ≡ 255
+  pub values : (j : ℕ) → (slot_at slots j).bits ≡ (slot_at slots₀ j).bits
+  pub long : length g ≤ length slots
 
-pub choosing_init : (schema : List ℕ) (qs : List Policy) (eligible choices : List ℕ) → Eligible schema qs eligible → choices ≡ replicate 64 255 → Choosing (schema_of schema) qs choices 1 0
+pub choosing_init : (schema : List ℕ) (qs : List Policy) (eligible : List ℕ) (slots : List Slot) → Eligible schema qs eligible → Unchosen schema slots → Choosing (schema_of schema) qs slots slots 1 0
 unfolding reached planned
-choosing_init schema qs eligible choices o e =
+choosing_init schema qs eligible slots o e =
     let z : length (schema_of schema) - 0 ≡ length (schema_of schema) = omega arith in
     record {
       at = 0;
@@ -125,14 +128,15 @@ choosing_init schema qs eligible choices o e =
       before = λ j t. never (sym (no-bit j) ∙ t);
       taken-feasible = λ j t. never (sym (no-bit j) ∙ t);
       chosen = λ j t. never (sym (no-bit j) ∙ t);
-      blank = λ j a b. ap (λ (l : List ℕ). get_or l j 0) e ∙ get_or-replicate {A = ℕ} 64 j 255 0 b;
-      long = ap length e ∙ length-replicate {A = ℕ} 64 255;
+      blank = λ j a b. e.none j b;
+      values = λ j. refl;
+      long = e.room.long;
     }
   where
     root : (j : ℕ) → bit 1 j ≡ true → j ≡ 0
     root j t = eqb-true j 0 (sym (pow-bit 0 j) ∙ t)
 
-module _ (schema : List ℕ) (qs : List Policy) (eligible choices : List ℕ) (left nodes : ℕ) (o : Eligible schema qs eligible) (w : Choosing (schema_of schema) qs choices left nodes) where
+module _ (schema : List ℕ) (qs : List Policy) (eligible : List ℕ) (slots₀ slots : List Slot) (left nodes : ℕ) (o : Eligible schema qs eligible) (w : Choosing (schema_of schema) qs slots₀ slots left nodes) where
   abbrev g : List Node
   g = schema_of schema
 
@@ -142,7 +146,7 @@ module _ (schema : List ℕ) (qs : List Policy) (eligible choices : List ℕ) (l
   A : Sound g
   A = sound_of schema o.some-nodes
 
-  pub choosing_exit : left ≤ 0 → Reached g qs choices nodes
+  pub choosing_exit : left ≤ 0 → Reached g qs slots₀ slots nodes
   unfolding nodes_of
   choosing_exit h =
       let z : left ≡ 0 = omega arith in
@@ -154,6 +158,7 @@ module _ (schema : List ℕ) (qs : List Policy) (eligible choices : List ℕ) (l
         below = λ m t. let a = w.before m t in let b = w.upto in omega arith;
         feasible = w.taken-feasible;
         chosen = w.chosen;
+        values = w.values;
       }
 
   -- ---- the lowest of those left
@@ -184,8 +189,11 @@ module _ (schema : List ℕ) (qs : List Policy) (eligible choices : List ℕ) (l
     pub choosing_node : n < length g
     choosing_node = here
 
-    pub choosing_slot : n < length eligible
-    choosing_slot = omega (arith, here, o.room.long)
+    pub choosing_eligible : n < length eligible
+    choosing_eligible = omega (arith, here, o.room.long)
+
+    pub choosing_slot : n < length slots
+    choosing_slot = omega (arith, here, w.long)
 
     step-parts : is_some (rules.least n) && cond (chooses (node_at g n)) (is_some (taken g rules (can g rules) n)) (every (can g rules) (node_at g n).successors) ≡ true
     unfolding can_step
@@ -193,15 +201,16 @@ module _ (schema : List ℕ) (qs : List Policy) (eligible choices : List ℕ) (l
 
     -- ---- any step: node n is taken, and what it reaches is left
 
-    record Stepped (left' nodes' : ℕ) (choices' : List ℕ) : Type 0 where
+    record Stepped (left' nodes' : ℕ) (slots' : List Slot) : Type 0 where
       to : (j : ℕ) → bit left' j ≡ (bit left j && not (eqb j n)) || elem j (reaches (node_at g n) (plan g rules n).choice)
       onward : (j : ℕ) → elem j (reaches (node_at g n) (plan g rules n).choice) ≡ true → (n < j) × (j < length g) × (can g rules j ≡ true)
       taken-too : nodes' ≡ with nodes n
-      choice : get_or choices' n 0 ≡ (plan g rules n).choice
-      others : (j : ℕ) → (j ≡ n → ⊥) → get_or choices' j 0 ≡ get_or choices j 0
-      long : length choices' ≡ 64
+      choice : (slot_at slots' n).choice ≡ (plan g rules n).choice
+      others : (j : ℕ) → (j ≡ n → ⊥) → slot_at slots' j ≡ slot_at slots j
+      same : (j : ℕ) → (slot_at slots' j).bits ≡ (slot_at slots j).bits
+      long : length slots' ≡ length slots
 
-    module _ {left' nodes' : ℕ} {choices' : List ℕ} (v : Stepped left' nodes' choices') where
+    module _ {left' nodes' : ℕ} {slots' : List Slot} (v : Stepped left' nodes' slots') where
       parts : (j : ℕ) → bit left' j ≡ true → ((bit left j ≡ true) × (n < j)) ⊎ (elem j (reaches (node_at g n) (plan g rules n).choice) ≡ true)
       parts j t = go (or-true (bit left j && not (eqb j n)) (elem j (reaches (node_at g n) (plan g rules n).choice)) (sym (v.to j) ∙ t))
         where
@@ -223,7 +232,7 @@ module _ (schema : List ℕ) (qs : List Policy) (eligible choices : List ℕ) (l
       stepped-less : 64 - count_trailing_zeros 64 left' < 64 - count_trailing_zeros 64 left
       stepped-less = let z = tz-above 64 left' n l.small higher in let s = l.small in omega (arith, l.is)
 
-      stepped : Choosing g qs choices' left' nodes'
+      stepped : Choosing g qs slots₀ slots' left' nodes'
       unfolding plan nodes_of reached
       stepped =
           record {
@@ -248,8 +257,9 @@ module _ (schema : List ℕ) (qs : List Policy) (eligible choices : List ℕ) (l
             before = λ j t. before j (taken-cases j t);
             taken-feasible = λ j t. taken-feasible j (taken-cases j t);
             chosen = λ j t. chosen j (taken-cases j t);
-            blank = λ j a b. v.others j (λ q. omega arith) ∙ w.blank j (let z = w.above n left_here in omega arith) b;
-            long = v.long;
+            blank = λ j a b. ap (λ (x : Slot). x.choice) (v.others j (λ q. omega arith)) ∙ w.blank j (let z = w.above n left_here in omega arith) b;
+            values = λ j. v.same j ∙ w.values j;
+            long = omega (arith, v.long, w.long);
           }
         where
           next : List ℕ
@@ -297,9 +307,9 @@ module _ (schema : List ℕ) (qs : List Policy) (eligible choices : List ℕ) (l
           taken-feasible j (inl u) = w.taken-feasible j u
           taken-feasible j (inr u) = rw u here-feasible
 
-          chosen : (j : ℕ) → (bit nodes j ≡ true) ⊎ (j ≡ n) → get_or choices' j 0 ≡ (plan g rules j).choice
-          chosen j (inl u) = v.others j (λ q. let z = w.before j u in let a = w.above n left_here in omega arith) ∙ w.chosen j u
-          chosen j (inr u) = subst (λ (i : ℕ). get_or choices' i 0 ≡ (plan g rules i).choice) (sym u) v.choice
+          chosen : (j : ℕ) → (bit nodes j ≡ true) ⊎ (j ≡ n) → (slot_at slots' j).choice ≡ (plan g rules j).choice
+          chosen j (inl u) = ap (λ (x : Slot). x.choice) (v.others j (λ q. let z = w.before j u in let a = w.above n left_here in omega arith)) ∙ w.chosen j u
+          chosen j (inr u) = subst (λ (i : ℕ). (slot_at slots' i).choice ≡ (plan g rules i).choice) (sym u) v.choice
 
     -- ---- a node that chooses
 
@@ -363,7 +373,24 @@ module _ (schema : List ℕ) (qs : List Policy) (eligible choices : List ℕ) (l
         unfolding plan
         plan-choice = rw chooses-here (ap (λ (d : Option ℕ). Option.get_or d 255) (taken-eligible ∙ c.is))
 
-        step-choose : {left₁ left' nodes' : ℕ} → left₁ ≡ turned left n → left' ≡ with left₁ x → nodes' ≡ with nodes n → Stepped left' nodes' (set choices n x)
+        -- its slot with the choice
+        abbrev taking : Slot
+        taking = record { choice = x; bits = (slot_at slots n).bits }
+
+        at-node : slot_at (set slots n taking) n ≡ taking
+        at-node = get_or-set_same slots n taking no_slot choosing_slot
+
+        at_other : (j : ℕ) → (j ≡ n → ⊥) → slot_at (set slots n taking) j ≡ slot_at slots j
+        at_other j q = get_or-set_other slots n j taking no_slot q
+
+        same-bits : (j : ℕ) → (slot_at (set slots n taking) j).bits ≡ (slot_at slots j).bits
+        same-bits j = go (ℕ_discrete j n)
+          where
+            go : Dec (j ≡ n) → (slot_at (set slots n taking) j).bits ≡ (slot_at slots j).bits
+            go (yes e) = subst (λ (i : ℕ). (slot_at (set slots n taking) i).bits ≡ (slot_at slots i).bits) (sym e) (ap (λ (x : Slot). x.bits) at-node)
+            go (no f) = ap (λ (x : Slot). x.bits) (at_other j f)
+
+        step-choose : {left₁ left' nodes' : ℕ} → left₁ ≡ turned left n → left' ≡ with left₁ x → nodes' ≡ with nodes n → Stepped left' nodes' (set slots n taking)
         unfolding reaches
         step-choose {left₁} {left'} a d s =
             record {
@@ -375,16 +402,17 @@ module _ (schema : List ℕ) (qs : List Policy) (eligible choices : List ℕ) (l
               onward = λ j m. let q : j ≡ x = elem-one j x (ap (elem j) (sym only) ∙ m) in
                   (let z = range.0 in omega arith, let z = range.1 in omega arith, ap (can g rules) q ∙ (eligible-successor x top.1).1);
               taken-too = s;
-              choice = get_or-set_same choices n x 0 (omega (arith, l.small, w.long)) ∙ sym plan-choice;
-              others = λ j q. get_or-set_other choices n j x 0 q;
-              long = length-set choices n x ∙ w.long;
+              choice = ap (λ (x : Slot). x.choice) at-node ∙ sym plan-choice;
+              others = at_other;
+              same = same-bits;
+              long = length-set slots n taking;
             }
           where
             only : cond (chooses (node_at g n)) ((plan g rules n).choice ∷ []) (node_at g n).successors ≡ x ∷ []
             only = rw chooses-here (ap (λ (c : ℕ). c ∷ []) plan-choice)
 
         module _ {left₁ left' nodes' : ℕ} (a : left₁ ≡ turned left n) (d : left' ≡ with left₁ x) (s : nodes' ≡ with nodes n) where
-          pub choosing_step : Choosing g qs (set choices n x) left' nodes'
+          pub choosing_step : Choosing g qs slots₀ (set slots n (record { choice = x; bits = (slot_at slots n).bits })) left' nodes'
           choosing_step = stepped (step-choose a d s)
 
           pub choosing_less : 64 - count_trailing_zeros 64 left' < 64 - count_trailing_zeros 64 left
@@ -392,43 +420,41 @@ module _ (schema : List ℕ) (qs : List Policy) (eligible choices : List ℕ) (l
 
     -- ---- a node that takes all
 
-    module _ (sets : List ℕ) (d : SetsIn schema sets) where
-      pub choosing_set : n < length sets
-      choosing_set = omega (arith, here, d.long)
+    module _ {v : ℕ} (d : v ≡ successor_set (node_at g n)) {b : Bool} (e : b ≡ chooses (node_at g n)) (t : b ≡ false)
+        {left₁ nodes' : ℕ} (a : left₁ ≡ turned left n) (s : nodes' ≡ with nodes n) where
+      all_here : chooses (node_at g n) ≡ false
+      all_here = sym e ∙ t
 
-      module _ {b : Bool} (e : b ≡ chooses (node_at g n)) (t : b ≡ false) {left₁ nodes' : ℕ} (a : left₁ ≡ turned left n) (s : nodes' ≡ with nodes n) where
-        all_here : chooses (node_at g n) ≡ false
-        all_here = sym e ∙ t
+      plan-none : (plan g rules n).choice ≡ 255
+      unfolding plan
+      plan-none = rw all_here refl
 
-        plan-none : (plan g rules n).choice ≡ 255
-        unfolding plan
-        plan-none = rw all_here refl
+      every_here : every (can g rules) (node_at g n).successors ≡ true
+      every_here = rw all_here at (and-true (is_some (rules.least n)) (cond (chooses (node_at g n)) (is_some (taken g rules (can g rules) n)) (every (can g rules) (node_at g n).successors)) step-parts).1
 
-        every_here : every (can g rules) (node_at g n).successors ≡ true
-        every_here = rw all_here at (and-true (is_some (rules.least n)) (cond (chooses (node_at g n)) (is_some (taken g rules (can g rules) n)) (every (can g rules) (node_at g n).successors)) step-parts).1
+      step-all : Stepped (bit_or left₁ v) nodes' slots
+      unfolding reaches
+      step-all =
+          record {
+            to = λ j.
+                or-bit left₁ v j
+                ∙ ap₂ (λ (b c : Bool). b || c) (ap (λ (m : ℕ). bit m j) a ∙ left-turned j) (ap (λ (m : ℕ). bit m j) d ∙ successors-bit g A n j ∙ ap (elem j) (sym all));
+            onward = λ j m.
+                let u : elem j (node_at g n).successors ≡ true = ap (elem j) (sym all) ∙ m in
+                let z = successor-in g A n j u in
+                (z.0, z.1, every-at (can g rules) (node_at g n).successors every_here j u);
+            taken-too = s;
+            choice = w.blank n (w.above n left_here) here ∙ sym plan-none;
+            others = λ j q. refl;
+            same = λ j. refl;
+            long = refl;
+          }
+        where
+          all : cond (chooses (node_at g n)) ((plan g rules n).choice ∷ []) (node_at g n).successors ≡ (node_at g n).successors
+          all = rw all_here
 
-        step-all : Stepped (bit_or left₁ (get_or sets n 0)) nodes' choices
-        unfolding reaches
-        step-all =
-            record {
-              to = λ j.
-                  or-bit left₁ (get_or sets n 0) j
-                  ∙ ap₂ (λ (b c : Bool). b || c) (ap (λ (m : ℕ). bit m j) a ∙ left-turned j) (ap (λ (m : ℕ). bit m j) (d.each n here) ∙ successors-bit g A n j ∙ ap (elem j) (sym all));
-              onward = λ j m.
-                  let u : elem j (node_at g n).successors ≡ true = ap (elem j) (sym all) ∙ m in
-                  let z = successor-in g A n j u in
-                  (z.0, z.1, every-at (can g rules) (node_at g n).successors every_here j u);
-              taken-too = s;
-              choice = w.blank n (w.above n left_here) l.small ∙ sym plan-none;
-              others = λ j q. refl;
-              long = w.long;
-            }
-          where
-            all : cond (chooses (node_at g n)) ((plan g rules n).choice ∷ []) (node_at g n).successors ≡ (node_at g n).successors
-            all = rw all_here
+      pub choosing_all : Choosing g qs slots₀ slots (bit_or left₁ v) nodes'
+      choosing_all = stepped step-all
 
-        pub choosing_all : Choosing g qs choices (bit_or left₁ (get_or sets n 0)) nodes'
-        choosing_all = stepped step-all
-
-        pub choosing_all_less : 64 - count_trailing_zeros 64 (bit_or left₁ (get_or sets n 0)) < 64 - count_trailing_zeros 64 left
-        choosing_all_less = stepped-less step-all
+      pub choosing_all_less : 64 - count_trailing_zeros 64 (bit_or left₁ v) < 64 - count_trailing_zeros 64 left
+      choosing_all_less = stepped-less step-all

@@ -11,7 +11,7 @@ use Rattle.schema.specs.Schema.{Node, schema_of}
 use Rattle.policies.specs.Policies.{Policy}
 use Rattle.policies.specs.Rows.{rule_at, rules_for, offsets_in, noted}
 use Rattle.policies.specs.declared.Policies.{Policies}
-use Rattle.policies.proofs.Row.{row_said}
+use Rattle.policies.proofs.Said.{row_said}
 use Rattle.model.specs.Satisfaction.{allowed}
 use Rattle.model.specs.Order.{better_by, better}
 use Rattle.model.proofs.Same.{better-same, allowed_same}

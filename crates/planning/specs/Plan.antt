@@ -1,4 +1,4 @@
--- What is planned for some policies, as the answer and the lent arrays tell it.
+-- What is planned for some policies, as the answer and the lent slots tell it.
 use Rattle.std.specs.Prelude.{ℕ, zero, suc, ◌+◌, ◌≤◌, ◌≡◌, List, cond, length, Option as Answered, Some, None}
 use Rattle.std.proofs.Math.Option.{Option, none, some}
 use Rattle.numbers.specs.Bits.{bit}
@@ -6,6 +6,7 @@ use Rattle.schema.specs.Schema.{Node, schema_of, node_at}
 use Rattle.instances.specs.Instance.{Entry}
 use Rattle.instances.specs.File.{values_width}
 use Rattle.instances.specs.Plan.{planned, nodes_of, plan_of}
+use Rattle.instances.specs.declared.Slot.{Slot}
 
 -- nodes as bits, or that there is no instance, as the code answers it
 abbrev pub Plan : Type 0
@@ -16,10 +17,10 @@ unfoldable pub plan_for : Option (List Entry) → Plan
 plan_for none = None
 plan_for (some i) = Some (nodes_of i)
 
--- r tells so of the instance o, and the arrays hold it; what they have of nodes without an entry, or where there is no instance, is free
-pub record Plans (g : List Node) (o : Option (List Entry)) (choices bits : List ℕ) (r : Plan) : Type 0 where
+-- r tells so of the instance o, and the slots hold it; what they have of nodes without an entry, or where there is no instance, is free
+pub record Plans (g : List Node) (o : Option (List Entry)) (slots : List Slot) (r : Plan) : Type 0 where
   pub answer : r ≡ plan_for o
-  pub holds : (i : List Entry) → o ≡ some i → planned g (plan_of g choices bits) ≡ i
+  pub holds : (i : List Entry) → o ≡ some i → planned g (plan_of g slots) ≡ i
 
 -- room for the eligible successors of each node, whatever stands there
 pub record EligibleRoom (schema eligible : List ℕ) : Type 0 where

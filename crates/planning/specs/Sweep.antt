@@ -1,13 +1,14 @@
--- What the sweep over the nodes leaves in its tables, and which nodes are then reached and chosen.
+-- What the sweep over the nodes leaves in its table and the slots, and which nodes are then reached and chosen.
 -- For the contracts of functions that no other crate calls.
-use Rattle.std.specs.Prelude.{ℕ, ◌<◌, ◌≤◌, ◌≡◌, ◌⊎◌, Bool, true, false, ◌&&◌, List, [], length, get_or}
+use Rattle.std.specs.Prelude.{ℕ, ◌<◌, ◌≤◌, ◌≡◌, Bool, true, false, ◌&&◌, List, [], length, get_or}
 use Rattle.std.proofs.Math.Option
 use Rattle.std.proofs.Math.Option.{some}
 use Rattle.numbers.specs.Bits.{bit}
 use Rattle.schema.specs.Schema.{Node, schema_of, node_at}
 use Rattle.policies.specs.Policies.{Policy}
 use Rattle.instances.specs.Instance.{elem, chooses}
-use Rattle.instances.specs.Plan.{planned, nodes_of, values_from, values_slot, value_slot, BitsRoom}
+use Rattle.instances.specs.Plan.{planned, nodes_of, values_from, slot_at, Unchosen}
+use Rattle.instances.specs.declared.Slot.{Slot}
 use Rattle.model.specs.Satisfaction.{allowed}
 use Rattle.model.specs.Order.{better}
 use Rattle.model.specs.Reconciling.{Rules, best, can_step, can, plan, rules_of}
@@ -40,27 +41,26 @@ pub record Allowed (g : List Node) (qs : List Policy) (n set r : ℕ) : Type 0 w
 unfoldable pub is_eligible : List Node → Rules → (ℕ → Bool) → ℕ → ℕ → Bool
 is_eligible g r h n x = elem x (node_at g n).successors && (r.allowed n x && h x)
 
--- r tells whether node n is feasible under these policies, where the nodes above it are known; then its values' bits are
--- in its four slots, and if it chooses, its eligible successors in its slot of the table of those
-pub record NodePlanned (g : List Node) (qs : List Policy) (n feasible : ℕ) (eligible₀ eligible bits₀ bits : List ℕ) (r : Bool) : Type 0 where
+-- r tells whether node n is feasible under these policies, where the nodes above it are known; then these are the bits of its
+-- values, and if it chooses, its eligible successors are in its place of the table of those
+pub record NodePlanned (g : List Node) (qs : List Policy) (n feasible : ℕ) (eligible₀ eligible bits : List ℕ) (r : Bool) : Type 0 where
   pub is : r ≡ can_step g (rules_of g qs) (bit feasible) n
   pub eligible-is : r ≡ true → chooses (node_at g n) ≡ true → (x : ℕ) → bit (get_or eligible n 0) x ≡ is_eligible g (rules_of g qs) (bit feasible) n x
   pub eligible-others : (m : ℕ) → (m ≡ n → ⊥) → get_or eligible m 0 ≡ get_or eligible₀ m 0
   pub eligible-long : length eligible ≡ length eligible₀
-  pub values : r ≡ true → values_from (node_at g n).variables bits (values_slot n) ≡ Option.get_or ((rules_of g qs).least n) []
-  pub others : (i : ℕ) → (i < values_slot n) ⊎ (value_slot n 4 ≤ i) → get_or bits i 0 ≡ get_or bits₀ i 0
-  pub long : length bits ≡ length bits₀
+  pub values : r ≡ true → values_from (node_at g n).variables bits 0 ≡ Option.get_or ((rules_of g qs).least n) []
 
--- the set and the tables tell of each node from n on whether it is feasible, and then its eligible successors and its values
-pub record Swept (schema : List ℕ) (qs : List Policy) (n feasible : ℕ) (eligible bits : List ℕ) : Type 0 where
+-- the set, the table and the slots tell of each node from n on whether it is feasible, and then its eligible successors and
+-- its values; none has chosen
+pub record Swept (schema : List ℕ) (qs : List Policy) (n feasible : ℕ) (eligible : List ℕ) (slots : List Slot) : Type 0 where
   pub known : (m : ℕ) → n ≤ m → m < length (schema_of schema) → bit feasible m ≡ can (schema_of schema) (rules_of (schema_of schema) qs) m
   pub eligible-is : (m : ℕ) → n ≤ m → m < length (schema_of schema) → can (schema_of schema) (rules_of (schema_of schema) qs) m ≡ true → chooses (node_at (schema_of schema) m) ≡ true
       → (x : ℕ) → bit (get_or eligible m 0) x ≡ is_eligible (schema_of schema) (rules_of (schema_of schema) qs) (can (schema_of schema) (rules_of (schema_of schema) qs)) m x
   pub values : (m : ℕ) → n ≤ m → m < length (schema_of schema) → can (schema_of schema) (rules_of (schema_of schema) qs) m ≡ true
-      → values_from (node_at (schema_of schema) m).variables bits (values_slot m) ≡ Option.get_or ((rules_of (schema_of schema) qs).least m) []
+      → values_from (node_at (schema_of schema) m).variables (slot_at slots m).bits 0 ≡ Option.get_or ((rules_of (schema_of schema) qs).least m) []
   pub blank : (m : ℕ) → m < n → bit feasible m ≡ false
   pub eligible-room : EligibleRoom schema eligible
-  pub bits-room : BitsRoom schema bits
+  pub unchosen : Unchosen schema slots
 
 -- the root is feasible, and the table has the eligible successors of each feasible node that chooses
 pub record Eligible (schema : List ℕ) (qs : List Policy) (eligible : List ℕ) : Type 0 where
@@ -70,9 +70,11 @@ pub record Eligible (schema : List ℕ) (qs : List Policy) (eligible : List ℕ)
       → (x : ℕ) → bit (get_or eligible m 0) x ≡ is_eligible (schema_of schema) (rules_of (schema_of schema) qs) (can (schema_of schema) (rules_of (schema_of schema) qs)) m x
   pub room : EligibleRoom schema eligible
 
--- r has the nodes of the instance that the model plans, as bits; these are feasible, and their choices are in the table
-pub record Reached (g : List Node) (qs : List Policy) (choices : List ℕ) (r : ℕ) : Type 0 where
+-- r has the nodes of the instance that the model plans, as bits; these are feasible, and their choices are in their slots;
+-- the bits of the values stay
+pub record Reached (g : List Node) (qs : List Policy) (slots₀ slots : List Slot) (r : ℕ) : Type 0 where
   pub is : r ≡ nodes_of (planned g (plan g (rules_of g qs)))
   pub below : (m : ℕ) → bit r m ≡ true → m < length g
   pub feasible : (m : ℕ) → bit r m ≡ true → can g (rules_of g qs) m ≡ true
-  pub chosen : (m : ℕ) → bit r m ≡ true → get_or choices m 0 ≡ (plan g (rules_of g qs) m).choice
+  pub chosen : (m : ℕ) → bit r m ≡ true → (slot_at slots m).choice ≡ (plan g (rules_of g qs) m).choice
+  pub values : (m : ℕ) → (slot_at slots m).bits ≡ (slot_at slots₀ m).bits

@@ -2,22 +2,22 @@
 // values, then which of them are reached and what these choose, and how long the instance's file is.
 #![tactic(auto)]
 
-ghost use Rattle.std.specs.Prelude.{◌≡◌, true, ◌<◌, ◌≤◌, length, replicate};
+ghost use Rattle.std.specs.Prelude.{◌≡◌, true, ◌<◌, ◌≤◌, length};
 ghost use Rattle.std.specs.List.{All};
-ghost use Rattle.schema.specs.Schema.{most_nodes, schema_of, node_at};
-ghost use Rattle.schema.specs.Table.{SetsIn, AtMost};
+ghost use Rattle.schema.specs.Schema.{schema_of, node_at};
+ghost use Rattle.schema.specs.Table.{AtMost};
 ghost use Rattle.policies.specs.Rows.{noted};
 ghost use Rattle.instances.specs.Instance.{chooses};
 ghost use Rattle.instances.specs.File.{most_bytes};
-ghost use Rattle.instances.specs.Plan.{BitsRoom};
+ghost use Rattle.instances.specs.Plan.{Unchosen};
 ghost use Rattle.model.specs.Reconciling.{reconciled};
 ghost use Rattle.planning.specs.Plan.{EligibleRoom, Plans, entries_length, file_length};
 ghost use Rattle.planning.specs.Sweep.{SuccessorsIn, Choice, Chosen, NoneBanned, Allowed, NodePlanned, Swept, Eligible, Reached};
 
-use instances::{ENTRY_WIDTH, HEAD_WIDTH};
+use instances::{ENTRY_WIDTH, HEAD_WIDTH, Slot};
 use nodes::Schema;
 use policies::{MOST_POLICIES, Policies};
-use schema::{MOST_NODES, MOST_SUCCESSORS};
+use schema::{MOST_SUCCESSORS, MOST_VARIABLES};
 
 // Which of these successors of a node are in a set of nodes, by column.
 #[tactic(auto, using(crate::proofs::Tables::marking_init))]
@@ -98,25 +98,22 @@ fn keep_allowed(policies: &Policies, n: usize, nodes: u64) -> u64
     kept
 }
 
-// Whether node n is feasible, where it is known which nodes above it are; its values, and its eligible successors if it
-// chooses, go into the tables.
+// Whether node n is feasible, where it is known which nodes above it are; then these are the bits of its values, and its
+// eligible successors, if it chooses, go into the table.
 #[tactic(auto, using(crate::proofs::Node::node_chooses))]
 fn plan_node(
     policies: &Policies,
-    sets: &[u64],
     n: usize,
     feasible: u64,
     eligible: &mut [u64],
-    bits: &mut [u32],
+    bits: &mut [u32; MOST_VARIABLES],
 ) -> bool
     requires node_in { n < length (schema_of policies.now.schema.bytes.now) }
-    requires sets_in { SetsIn policies.now.schema.bytes.now sets.now }
     requires eligible_room { EligibleRoom policies.now.schema.bytes.now eligible.old }
-    requires bits_room { BitsRoom policies.now.schema.bytes.now bits.old }
-    ensures { NodePlanned (schema_of policies.now.schema.bytes.now) (noted (schema_of policies.now.schema.bytes.now) policies.now.bytes.now policies.now.rows.now) n feasible eligible.old eligible.new bits.old bits.new result }
+    ensures { NodePlanned (schema_of policies.now.schema.bytes.now) (noted (schema_of policies.now.schema.bytes.now) policies.now.bytes.now policies.now.rows.now) n feasible eligible.old eligible.new bits.new result }
 {
     if conditions::least_values(policies, n, bits) {
-        let set = sets[n];
+        let set = policies.schema.successor_set(n);
         if instances::chooses(&policies.schema, n) {
             let kept = keep_allowed(policies, n, set & feasible);
             eligible[n] = kept;
@@ -129,15 +126,14 @@ fn plan_node(
 
 // The sweep from the highest node to 0: which nodes are feasible, the values of each and its eligible successors.
 #[tactic(auto, using(crate::proofs::Sweep::sweep_below, crate::proofs::Sweep::sweep_small))]
-fn sweep_nodes(policies: &Policies, sets: &[u64], eligible: &mut [u64], bits: &mut [u32]) -> u64
-    requires sets_in { SetsIn policies.now.schema.bytes.now sets.now }
+fn sweep_nodes(policies: &Policies, eligible: &mut [u64], slots: &mut [Slot]) -> u64
     requires eligible_room { EligibleRoom policies.now.schema.bytes.now eligible.old }
-    requires bits_room { BitsRoom policies.now.schema.bytes.now bits.old }
-    ensures { Swept policies.now.schema.bytes.now (noted (schema_of policies.now.schema.bytes.now) policies.now.bytes.now policies.now.rows.now) 0 result eligible.new bits.new }
+    requires unchosen { Unchosen policies.now.schema.bytes.now slots.old }
+    ensures { Swept policies.now.schema.bytes.now (noted (schema_of policies.now.schema.bytes.now) policies.now.bytes.now policies.now.rows.now) 0 result eligible.new slots.new }
 {
     let mut feasible: u64 = 0;
     for n in (0..policies.schema.node_count()).rev() {
-        if plan_node(policies, sets, n, feasible, eligible, bits) {
+        if plan_node(policies, n, feasible, eligible, &mut slots[n].bits) {
             feasible = numbers::insert(feasible, n);
         }
     }
@@ -145,16 +141,10 @@ fn sweep_nodes(policies: &Policies, sets: &[u64], eligible: &mut [u64], bits: &m
 }
 
 // The nodes that are reached from node 0, the lowest first, and what each chooses.
-fn choose_nodes(
-    policies: &Policies,
-    sets: &[u64],
-    eligible: &[u64],
-    choices: &mut [u8; MOST_NODES],
-) -> u64
-    requires sets_in { SetsIn policies.now.schema.bytes.now sets.now }
+fn choose_nodes(policies: &Policies, eligible: &[u64], slots: &mut [Slot]) -> u64
     requires eligible { Eligible policies.now.schema.bytes.now (noted (schema_of policies.now.schema.bytes.now) policies.now.bytes.now policies.now.rows.now) eligible.now }
-    requires choices_value { choices.old ≡ replicate most_nodes 255 }
-    ensures { Reached (schema_of policies.now.schema.bytes.now) (noted (schema_of policies.now.schema.bytes.now) policies.now.bytes.now policies.now.rows.now) choices.new result }
+    requires unchosen { Unchosen policies.now.schema.bytes.now slots.old }
+    ensures { Reached (schema_of policies.now.schema.bytes.now) (noted (schema_of policies.now.schema.bytes.now) policies.now.bytes.now policies.now.rows.now) slots.old slots.new result }
 {
     let mut reached: u64 = 0;
     let mut left: u64 = 1;
@@ -164,33 +154,25 @@ fn choose_nodes(
         left = numbers::flip(left, n);
         if instances::chooses(&policies.schema, n) {
             let x = choose(policies, n, eligible[n]);
-            choices[n] = x as u8;
+            slots[n].choice = x as u8;
             left = numbers::insert(left, x);
         } else {
-            left = left | sets[n];
+            left = left | policies.schema.successor_set(n);
         }
     }
     reached
 }
 
 // What the noted policies come to: the instance that the model gives for them, by the nodes that have an entry, as bits, or
-// that there is none. The choices and the bits of the values, which are lent, hold it; so is the table of eligible successors.
-pub fn plan_for(
-    policies: &Policies,
-    sets: &[u64],
-    eligible: &mut [u64],
-    choices: &mut [u8; MOST_NODES],
-    bits: &mut [u32],
-) -> Option<u64>
-    requires sets_in { SetsIn policies.now.schema.bytes.now sets.now }
+// that there is none. The slots, which are lent, hold it; so is the table of eligible successors.
+pub fn plan_for(policies: &Policies, eligible: &mut [u64], slots: &mut [Slot]) -> Option<u64>
     requires eligible_room { EligibleRoom policies.now.schema.bytes.now eligible.old }
-    requires choices_value { choices.old ≡ replicate most_nodes 255 }
-    requires bits_room { BitsRoom policies.now.schema.bytes.now bits.old }
-    ensures { Plans (schema_of policies.now.schema.bytes.now) (reconciled (schema_of policies.now.schema.bytes.now) (noted (schema_of policies.now.schema.bytes.now) policies.now.bytes.now policies.now.rows.now)) choices.new bits.new result }
+    requires unchosen { Unchosen policies.now.schema.bytes.now slots.old }
+    ensures { Plans (schema_of policies.now.schema.bytes.now) (reconciled (schema_of policies.now.schema.bytes.now) (noted (schema_of policies.now.schema.bytes.now) policies.now.bytes.now policies.now.rows.now)) slots.new result }
 {
-    let feasible = sweep_nodes(policies, sets, eligible, bits);
+    let feasible = sweep_nodes(policies, eligible, slots);
     if numbers::has(feasible, 0) {
-        return Some(choose_nodes(policies, sets, eligible, choices));
+        return Some(choose_nodes(policies, eligible, slots));
     }
     None
 }

@@ -10,5 +10,5 @@ pub mod Stretch
 pub mod Filled
 pub mod Noted
 pub mod Rules
-pub mod Row
+pub mod Said
 pub mod Offsets

@@ -14,7 +14,8 @@ use Rattle.policies.specs.Policies.{Rule, Policy, policies_of, has_rule, rule_fo
 use Rattle.policies.specs.Widths.{rule_width, rules_width, policy_width}
 use Rattle.policies.specs.Pass.{in_force, forced}
 use Rattle.fields.specs.Shorts.{short}
-use Rattle.policies.specs.Rows.{row_slot, rows_of, rule_at, rules_at, offsets_in, noted_from, noted, rules_for, RuleAt, Noted}
+use Rattle.policies.specs.Rows.{row_at, rows_of, rule_at, rules_at, offsets_of, offsets_in, noted_from, noted, rules_for, RuleAt, Noted}
+use Rattle.policies.specs.declared.Row.{Row}
 use Rattle.policies.proofs.Stands.{none, more, RulesAt as Stand, PoliciesAt, rule-of-back}
 use Rattle.policies.proofs.Sound.{stood}
 use Rattle.policies.proofs.Widths.{policy-most, short-same}
@@ -137,7 +138,7 @@ module _ (schema p : List ℕ) (keep : Policy → Bool) (n : ℕ) where
 
 -- ---- what rows note of a node is what its row notes
 
-module _ (s p t : List ℕ) (w : Noted s p t) where
+module _ (s p : List ℕ) (t : List Row) (w : Noted s p t) where
   abbrev nodes : List Node
   nodes = schema_of s
 
@@ -179,9 +180,9 @@ module _ (s p t : List ℕ) (w : Noted s p t) where
   noted-at n h = from_at n 0 (length nodes) (omega arith) (omega arith) (omega arith)
 
   -- none, where the row's count is 0
-  pub noted-unnamed : (n : ℕ) → n < length nodes → get_or t (row_slot n) 0 ≡ 0 → rules_for n (noted nodes p t) ≡ rules_for n []
-  unfolding offsets_in rules_at
-  noted-unnamed n h e = noted-at n h ∙ ap (λ (k : ℕ). rules_for n (rules_at nodes p n (take k (drop (row_slot n + 1 + 0) t)))) e
+  pub noted-unnamed : (n : ℕ) → n < length nodes → (row_at t n).count ≡ 0 → rules_for n (noted nodes p t) ≡ rules_for n []
+  unfolding offsets_of rules_at
+  noted-unnamed n h e = noted-at n h ∙ ap (λ (k : ℕ). rules_for n (rules_at nodes p n (take k (row_at t n).offsets))) e
 
   pub noted-none : (n : ℕ) → length nodes ≤ n → rules_for n (noted nodes p t) ≡ []
   unfolding noted
@@ -189,11 +190,11 @@ module _ (s p t : List ℕ) (w : Noted s p t) where
 
 -- ---- the rows of the selected policies
 
-module _ (s p rows : List ℕ) (keep : Policy → Bool) where
+module _ (s p : List ℕ) (rows : List Row) (keep : Policy → Bool) where
   abbrev ps : List Policy
   ps = policies_of (schema_of s) p
 
-  module _ (e : rows ≡ rows_of keep (length rows) ps) (l : row_slot (length (schema_of s)) ≤ length rows) where
+  module _ (e : rows ≡ rows_of keep (length rows) ps) (l : length (schema_of s) ≤ length rows) where
     all_read : (n : ℕ) → n < length (schema_of s) → AllRead (schema_of s) p n (offsets_in rows n) (rules_for n (kept keep ps))
     all_read n h =
         let a = stood (schema_of s) p in
@@ -221,6 +222,6 @@ module _ (s p rows : List ℕ) (keep : Policy → Bool) where
         go (no h) = noted-none s p rows rows-noted n (omega arith) ∙ sym (policies-none s p keep n (stood (schema_of s) p).stand (omega arith))
 
 -- those of the policies in force
-pub rows-forced : (s p rows : List ℕ) (a b : ℕ) → rows ≡ rows_of (in_force a b) (length rows) (policies_of (schema_of s) p) → row_slot (length (schema_of s)) ≤ length rows
+pub rows-forced : (s p : List ℕ) (rows : List Row) (a b : ℕ) → rows ≡ rows_of (in_force a b) (length rows) (policies_of (schema_of s) p) → length (schema_of s) ≤ length rows
     → (n : ℕ) → rules_for n (noted (schema_of s) p rows) ≡ rules_for n (forced a b (policies_of (schema_of s) p))
 rows-forced s p rows a b e l n = rows_same s p rows (in_force a b) e l n ∙ ap (rules_for n) (kept-forced a b (policies_of (schema_of s) p))

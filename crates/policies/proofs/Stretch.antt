@@ -62,7 +62,7 @@ rule-there s y n p x a e r c =
 -- ---- what stands in the file stands in its stretch from h on
 
 module _ (h : ℕ) (s : List ℕ) where
-  be-stretch : (w p : ℕ) → be w s (h + p) ≡ be w (drop h s) p
+  pub be-stretch : (w p : ℕ) → be w s (h + p) ≡ be w (drop h s) p
   be-stretch w p =
       be-same w s (drop h s) (h + p) p (λ i k. ap (λ (j : ℕ). get_or s j 0) (let z : h + p + i ≡ h + (p + i) = omega arith in z) ∙ sym (get_or-drop h s (p + i) 0))
 

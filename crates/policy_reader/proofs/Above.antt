@@ -14,13 +14,14 @@ use Rattle.schema.specs.Schema.{schema_of}
 use Rattle.policies.specs.Policies.{Policy, policies, policies_in, policies_of}
 use Rattle.policies.specs.Pass.{in_force}
 use Rattle.policies.specs.Rows.{rows_of}
+use Rattle.policies.specs.declared.Row.{Row}
 use Rattle.policy_reader.specs.Answers.{YieldsPolicies}
 
 read_next : (r : Got (List Policy)) {q : ℕ} → got tt q ≡ end_of r → r ≡ got (policies_in r) q
 read_next (got ps p) e = cc
 read_next (bad m o) e = absurd (let z : ◌≡◌ {A = ℕ} 0 1 = cc in omega arith)
 
-module _ (schema p : List ℕ) (a b : ℕ) (t : List ℕ) (f : Result ℕ Breach) (w : YieldsPolicies schema p a b f t) where
+module _ (schema p : List ℕ) (a b : ℕ) (t : List Row) (f : Result ℕ Breach) (w : YieldsPolicies schema p a b f t) where
   pub accepted_policies : {q : ℕ} → as_end f ≡ got tt q → policies (schema_of schema) p ≡ got (policies_of (schema_of schema) p) q
   unfolding policies_of
   accepted_policies e = read_next (policies (schema_of schema) p) (sym e ∙ w.answer)

@@ -1,14 +1,15 @@
 -- A PN is read to its end if its bytes are all there and its masks fit: so one test of the length, and one of the masks, will do.
--- Rests on the definitions of the readings and of the table's slots, and on schema's Accepted for the number of a node's variables.
+-- Rests on the definitions of the readings, on what a layout tells, in schema's Access, and on Stretch: the bytes from p on are the rest's from 0 on.
 use mathlib.Core.Path.{◌≡◌, refl, ap, ap₂, sym, ◌∙◌}
 use mathlib.Core.Bool.{Bool, true, false, ◌&&◌, ◌||◌}
-use mathlib.Core.List.{List, [], ◌∷◌}
+use mathlib.Core.List.{List, [], ◌∷◌, map}
 use Prim.Native.Nat.{ℕ, zero, suc, ◌+◌, ◌-◌, ◌*◌, ◌/◌, ◌^◌, ◌≤◌, ◌<◌}
 use native.Mathlib.Omega.{arith}
 use native.Mathlib.Nat.{add-zero, zero-add}
 use borrow.Author.Tests.{leb-true, le-leb, lt-leb, lt-ltb, ltb-true, eq-eqb, ne_eqb, eqb-true}
-use lib.ListN.{length, get_or}
+use lib.ListN.{length, get_or, drop, length-drop}
 use lib.Dec.{leb, eqb}
+use lib.Seq.{get_or-drop}
 use mir.Val.{Fits}
 use mir.Syntax.{w64}
 use Rattle.fields.specs.Reading.{got, part, be, whole, field, many, signed}
@@ -19,12 +20,13 @@ use Rattle.numbers.proofs.Bits.{part-size, spare-within}
 use Rattle.schema.specs.Schema.{Node, schema_of, node_at, no_variable}
 use Rattle.schema.specs.declared.Variable.{Variable}
 use Rattle.schema.specs.declared.Variable.TheVariants.{Number, Listed}
-use Rattle.schema.specs.Layout.{rank_count, span, spans, offset_of, rule_length, masks_of, mask_skip, spare_of, spare_at, Laid}
-use Rattle.schema.proofs.Accepted.{file-of, view}
-use Rattle.schema.proofs.Access.{laid}
+use Rattle.schema.specs.Layout.{rank_count, span, spans, offset_of, rule_length, masks_of, skips_of, spare_of}
+use Rattle.schema.specs.Table.{layout_at, Tabled}
+use Rattle.schema.specs.declared.Layout.{Layout}
+use Rattle.schema.proofs.Access.{variables_few, width-is, masks-is, skip-at, spare-at}
 use Rattle.policies.specs.Policies.{Condition, range, mask, PN, ranks, condition, conditions, rule_of}
-use Rattle.schema.specs.Table.{Tabled}
 use Rattle.policies.proofs.Nodes.{nodes-few}
+use Rattle.policies.proofs.Stretch.{be-stretch}
 use Rattle.policy_reader.specs.Body.{excess_of, masks_fit, Looking, is_whole, is_good, is_next, Shape, Shapes}
 
 -- the bytes of a node's ranks and conditions
@@ -82,7 +84,7 @@ body-there s x n p h m =
         → Fit s (p + rank_count x + spans k x.variables) (get_or x.variables k no_variable)
     next k f = let e : p + rank_count x + spans k x.variables ≡ p + (rank_count x + spans k x.variables) = omega arith in rw e f
 
--- ---- the slots of the table
+-- ---- what the layout of a node tells
 
 -- a condition has four bytes at least
 span-least : (v : Variable) → 4 ≤ span v
@@ -95,26 +97,26 @@ unfolding masks_of
 masks-some [] h = absurd (h refl)
 masks-some (v ∷ vs) h = omega arith
 
--- where a node has variables the bytes at each mask's slot are there
-skip-room : (vs : List Variable) (w k : ℕ) → 0 < length vs → mask_skip vs w k + 4 ≤ w + spans (length vs) vs
-unfolding mask_skip spans
+-- where a node has variables the bytes at each mask's place are there
+skip-room : (vs : List Variable) (w k : ℕ) → 0 < length vs → get_or (skips_of w vs) k 0 + 4 ≤ w + spans (length vs) vs
+unfolding skips_of spans
 skip-room [] w k h = absurd (omega arith)
 skip-room (Number lo hi ∷ vs) w zero h = omega (arith, span-least (Number lo hi))
 skip-room (Listed size ∷ vs) w zero h = omega (arith, span-least (Listed size))
 skip-room (v ∷ []) w (suc k) h = omega (arith, span-least v)
 skip-room (v ∷ u ∷ vs) w (suc k) h = omega (arith, skip-room (u ∷ vs) (w + span v) k (omega arith))
 
-spare-most : (vs : List Variable) (k : ℕ) → spare_at vs k ≤ 32
-unfolding spare_at spare_of
+spare-most : (vs : List Variable) (k : ℕ) → get_or (map spare_of vs) k 0 ≤ 32
+unfolding spare_of
 spare-most [] k = omega arith
 spare-most (Number lo hi ∷ vs) zero = omega arith
 spare-most (Listed size ∷ vs) zero = omega arith
 spare-most (v ∷ vs) (suc k) = spare-most vs k
 
 -- a mask with no spare bit fits
-fit-spare : (s : List ℕ) (p : ℕ) (vs : List Variable) (w k : ℕ) → k < length vs → be 4 s (p + mask_skip vs w k) * 2 ^ spare_at vs k < 2 ^ 32
+fit-spare : (s : List ℕ) (p : ℕ) (vs : List Variable) (w k : ℕ) → k < length vs → be 4 s (p + get_or (skips_of w vs) k 0) * 2 ^ get_or (map spare_of vs) k 0 < 2 ^ 32
     → Fit s (p + (w + spans k vs)) (get_or vs k no_variable)
-unfolding mask_skip spare_at spare_of spans
+unfolding skips_of spare_of spans
 fit-spare s p [] w k l h = absurd (omega arith)
 fit-spare s p (Number lo hi ∷ vs) w zero l h = tt
 fit-spare s p (Listed size ∷ vs) w zero l h = rw (add-zero w) (spare-within (be 4 s (p + w)) size h)
@@ -130,9 +132,6 @@ fit_none s p (Number lo hi ∷ vs) zero l h = tt
 fit_none s p (Number lo hi ∷ vs) (suc k) l h = fit_none s p vs k (omega arith) h
 fit_none s p (Listed size ∷ vs) k l h = absurd (omega arith)
 
-variables-few : (s : List ℕ) (n : ℕ) → n < length (schema_of s) → length (node_at (schema_of s) n).variables ≤ 4
-variables-few s n h = (view s (file-of s (omega arith)) n h).few-variables
-
 -- ---- what the code's tests show
 
 pub whole-inside : (s : List ℕ) (w p : ℕ) → is_whole s w p ≡ true → (w ≤ length s - p) × (be 2 s p ≡ be 2 PN 0)
@@ -141,70 +140,70 @@ whole-inside s w p e =
     let both = and-true (leb w (length s - p)) (eqb (be 2 s p) (be 2 PN 0)) e in
     (leb-true w (length s - p) both.0, eqb-true (be 2 s p) (be 2 PN 0) both.1)
 
-fits_one : (t s : List ℕ) (n p k : ℕ) → eqb (excess_of t s n p k) 0 ≡ true → be 4 s (p + get_or t (16 * n + 8 + k) 0) * 2 ^ get_or t (16 * n + 12 + k) 0 < 2 ^ 32
+fits_one : (x : Layout) (s : List ℕ) (p k : ℕ) → eqb (excess_of x s p k) 0 ≡ true → be 4 s (p + get_or x.skips k 0) * 2 ^ get_or x.spares k 0 < 2 ^ 32
 unfolding excess_of
-fits_one t s n p k e =
-    let m = be 4 s (p + get_or t (16 * n + 8 + k) 0) * 2 ^ get_or t (16 * n + 12 + k) 0 in
+fits_one x s p k e =
+    let m = be 4 s (p + get_or x.skips k 0) * 2 ^ get_or x.spares k 0 in
     ltb-true m (2 ^ 32) (sym (part-size m 32) ∙ e)
 
-fits-at : (t s : List ℕ) (n p : ℕ) → masks_fit t s n p ≡ true → (k : ℕ) → k < 4 → be 4 s (p + get_or t (16 * n + 8 + k) 0) * 2 ^ get_or t (16 * n + 12 + k) 0 < 2 ^ 32
+fits-at : (x : Layout) (s : List ℕ) (p : ℕ) → masks_fit x s p ≡ true → (k : ℕ) → k < 4 → be 4 s (p + get_or x.skips k 0) * 2 ^ get_or x.spares k 0 < 2 ^ 32
 unfolding masks_fit
-fits-at t s n p e k l =
-    let both = and-true (eqb (excess_of t s n p 0) 0 && eqb (excess_of t s n p 1) 0) (eqb (excess_of t s n p 2) 0 && eqb (excess_of t s n p 3) 0) e in
-    fits_one t s n p k
-    (one k l (and-true (eqb (excess_of t s n p 0) 0) (eqb (excess_of t s n p 1) 0) both.0) (and-true (eqb (excess_of t s n p 2) 0) (eqb (excess_of t s n p 3) 0) both.1))
+fits-at x s p e k l =
+    let both = and-true (eqb (excess_of x s p 0) 0 && eqb (excess_of x s p 1) 0) (eqb (excess_of x s p 2) 0 && eqb (excess_of x s p 3) 0) e in
+    fits_one x s p k
+    (one k l (and-true (eqb (excess_of x s p 0) 0) (eqb (excess_of x s p 1) 0) both.0) (and-true (eqb (excess_of x s p 2) 0) (eqb (excess_of x s p 3) 0) both.1))
   where
-    one : (k : ℕ) → k < 4 → (eqb (excess_of t s n p 0) 0 ≡ true) × (eqb (excess_of t s n p 1) 0 ≡ true) → (eqb (excess_of t s n p 2) 0 ≡ true) × (eqb (excess_of t s n p 3) 0 ≡ true)
-        → eqb (excess_of t s n p k) 0 ≡ true
+    one : (k : ℕ) → k < 4 → (eqb (excess_of x s p 0) 0 ≡ true) × (eqb (excess_of x s p 1) 0 ≡ true) → (eqb (excess_of x s p 2) 0 ≡ true) × (eqb (excess_of x s p 3) 0 ≡ true)
+        → eqb (excess_of x s p k) 0 ≡ true
     one zero l a b = a.0
     one (suc zero) l a b = a.1
     one (suc (suc zero)) l a b = b.0
     one (suc (suc (suc zero))) l a b = b.1
     one (suc (suc (suc (suc k)))) l a b = absurd (omega arith)
 
-module _ (schema t : List ℕ) (n : ℕ) (w : Laid (schema_of schema) t) (b : n < length (schema_of schema)) where
+module _ (schema : List ℕ) (t : List Layout) (n : ℕ) (d : Tabled schema t) (b : n < length (schema_of schema)) where
   abbrev node : Node
   node = node_at (schema_of schema) n
 
-  width_is : get_or t (16 * n + 5) 0 ≡ 3 + body_width node
-  unfolding rule_length body_width
-  width_is = (w.each n b).length-is
+  abbrev x : Layout
+  x = layout_at t n
 
-  pub shape_of : Shape t n
+  width_is : x.rule_width ≡ 3 + body_width node
+  unfolding rule_length body_width
+  width_is = width-is schema t n d b
+
+  pub shape_of : Shape x
   unfolding body_width offset_of
   shape_of =
       record {
-        long = omega (arith, w.long);
         least = omega (arith, width_is);
         there = λ k l h.
-            let z = skip-room node.variables (rank_count node) k (masks-some node.variables (λ e. h ((w.each n b).masks ∙ e))) in
-            omega (arith, width_is, (w.each n b).skip k l);
-        spare = λ k l. omega (arith, (w.each n b).spare k l, spare-most node.variables k);
+            let z = skip-room node.variables (rank_count node) k (masks-some node.variables (λ e. h (masks-is schema t n d b ∙ e))) in
+            omega (arith, width_is, skip-at schema t n d b k l);
+        spare = λ k l. omega (arith, spare-at schema t n d b k l, spare-most node.variables k);
       }
 
   -- a PN that passes is read to its end
-  pub good-read : (s : List ℕ) (p : ℕ) → is_good t s n p ≡ true → p ≤ length s → got tt (p + get_or t (16 * n + 5) 0) ≡ end_of (rule_of s node n (p + 3))
+  pub good-read : (s : List ℕ) (p : ℕ) → is_good x s p ≡ true → p ≤ length s → got tt (p + x.rule_width) ≡ end_of (rule_of s node n (p + 3))
   unfolding is_good offset_of
   good-read s p e l =
-      let both = and-true (is_whole s (get_or t (16 * n + 5) 0) p) (eqb (get_or t (16 * n + 6) 0) 0 || masks_fit t s n (p + 3)) e in
-      let i = (whole-inside s (get_or t (16 * n + 5) 0) p both.0).0 in
-      let q : p + get_or t (16 * n + 5) 0 ≡ p + 3 + body_width node = omega (arith, width_is) in
-      ap (got tt) q ∙ body-there s node n (p + 3) (omega (arith, width_is)) (fits (eqb (get_or t (16 * n + 6) 0) 0) refl both.1)
+      let both = and-true (is_whole s x.rule_width p) (eqb x.masks 0 || masks_fit x s (p + 3)) e in
+      let i = (whole-inside s x.rule_width p both.0).0 in
+      let q : p + x.rule_width ≡ p + 3 + body_width node = omega (arith, width_is) in
+      ap (got tt) q ∙ body-there s node n (p + 3) (omega (arith, width_is)) (fits (eqb x.masks 0) refl both.1)
     where
-      spared : (k : ℕ) → k < length node.variables → k < 4 → be 4 s (p + 3 + get_or t (16 * n + 8 + k) 0) * 2 ^ get_or t (16 * n + 12 + k) 0 < 2 ^ 32
+      spared : (k : ℕ) → k < length node.variables → k < 4 → be 4 s (p + 3 + get_or x.skips k 0) * 2 ^ get_or x.spares k 0 < 2 ^ 32
           → Fit s (p + 3 + offset_of node k) (get_or node.variables k no_variable)
-      spared k l m h = fit-spare s (p + 3) node.variables (rank_count node) k l (rw ((w.each n b).skip k m, (w.each n b).spare k m) at h)
+      spared k l m h = fit-spare s (p + 3) node.variables (rank_count node) k l (rw (skip-at schema t n d b k m, spare-at schema t n d b k m) at h)
 
-      fits : (m : Bool) → eqb (get_or t (16 * n + 6) 0) 0 ≡ m → (m || masks_fit t s n (p + 3)) ≡ true
+      fits : (m : Bool) → eqb x.masks 0 ≡ m → (m || masks_fit x s (p + 3)) ≡ true
           → (k : ℕ) → k < length node.variables → Fit s (p + 3 + offset_of node k) (get_or node.variables k no_variable)
       fits true e h k l =
-          fit_none s (p + 3 + offset_of node k) node.variables k l (sym (w.each n b).masks ∙ eqb-true (get_or t (16 * n + 6) 0) 0 e)
-      fits false e h k l = spared k l (let z = variables-few schema n b in omega arith) (fits-at t s n (p + 3) h k (let z = variables-few schema n b in omega arith))
+          fit_none s (p + 3 + offset_of node k) node.variables k l (sym (masks-is schema t n d b) ∙ eqb-true x.masks 0 e)
+      fits false e h k l = spared k l (let z = variables_few schema n b in omega arith) (fits-at x s (p + 3) h k (let z = variables_few schema n b in omega arith))
 
-pub shapes-of : (schema t : List ℕ) → Tabled schema t → Shapes t (length (schema_of schema))
-shapes-of schema t d =
-    let w = laid schema t d in
-    record { few = nodes-few schema; long = w.long; each = λ n l. shape_of schema t n w l }
+pub shapes-of : (schema : List ℕ) (t : List Layout) → Tabled schema t → Shapes t (length (schema_of schema))
+shapes-of schema t d = record { few = nodes-few schema; long = d.long; each = λ n l. shape_of schema t n d l }
 
 -- ---- the tests
 
@@ -224,77 +223,101 @@ pub whole-marked : (s : List ℕ) (w p : ℕ) {m : Bool} → w ≤ length s - p 
 unfolding is_whole
 whole-marked s w p h e = rw (le-leb w (length s - p) h) e
 
-module _ (t s : List ℕ) (n p : ℕ) {v : Bool} (e : v ≡ is_whole s (get_or t (16 * n + 5) 0) p) where
-  pub good_not : v ≡ false → false ≡ is_good t s n p
+module _ (x : Layout) (s : List ℕ) (p : ℕ) {v : Bool} (e : v ≡ is_whole s x.rule_width p) where
+  pub good_not : v ≡ false → false ≡ is_good x s p
   unfolding is_good
-  good_not h = sym (and_no (eqb (get_or t (16 * n + 6) 0) 0 || masks_fit t s n (p + 3)) (sym e ∙ h))
+  good_not h = sym (and_no (eqb x.masks 0 || masks_fit x s (p + 3)) (sym e ∙ h))
+
+  pub next_not : (n : ℕ) → v ≡ false → false ≡ is_next x s n p
+  unfolding is_next
+  next_not n h = sym (and_no (eqb (get_or s (p + 2) 0) n) (sym (good_not h)))
 
   module _ (h : v ≡ true) where
-    pub good_bare : get_or t (16 * n + 6) 0 ≡ 0 → true ≡ is_good t s n p
+    pub good_bare : x.masks ≡ 0 → true ≡ is_good x s p
     unfolding is_good
-    good_bare z = sym (and_yes (sym e ∙ h) (or_yes (masks_fit t s n (p + 3)) (eq-eqb (get_or t (16 * n + 6) 0) 0 z)))
+    good_bare z = sym (and_yes (sym e ∙ h) (or_yes (masks_fit x s (p + 3)) (eq-eqb x.masks 0 z)))
 
-    pub good_masks : (get_or t (16 * n + 6) 0 ≡ 0 → ⊥) → {u : Bool} → u ≡ masks_fit t s n (p + 3) → u ≡ is_good t s n p
+    pub good_masks : (x.masks ≡ 0 → ⊥) → {u : Bool} → u ≡ masks_fit x s (p + 3) → u ≡ is_good x s p
     unfolding is_good
-    good_masks z d = rw (sym e ∙ h, ne_eqb (get_or t (16 * n + 6) 0) 0 z) d
+    good_masks z d = rw (sym e ∙ h, ne_eqb x.masks 0 z) d
 
-    module _ (w : Shape t n) where
-      whole-there : p + get_or t (16 * n + 5) 0 ≤ length s
-      whole-there = let j = (whole-inside s (get_or t (16 * n + 5) 0) p (sym e ∙ h)).0 in omega (arith, w.least)
+    module _ (w : Shape x) where
+      whole-there : p + x.rule_width ≤ length s
+      whole-there = let j = (whole-inside s x.rule_width p (sym e ∙ h)).0 in omega (arith, w.least)
 
-      pub good_looking : (get_or t (16 * n + 6) 0 ≡ 0 → ⊥) → Looking t s n (p + 3)
-      good_looking z = record { long = w.long; there = λ k l. omega (arith, w.there k l z, whole-there); spare = w.spare }
+      pub good_looking : (x.masks ≡ 0 → ⊥) → Looking x s (p + 3)
+      good_looking z = record { there = λ k l. omega (arith, w.there k l z, whole-there); spare = w.spare }
 
       pub node_there : p + 2 < length s
       node_there = omega (arith, w.least, whole-there)
 
-    module _ {b : ℕ} (j : b ≡ get_or s (p + 2) 0) where
-      pub next_other : (b ≡ n → ⊥) → false ≡ is_next t s n p
+    module _ (n : ℕ) {b : ℕ} (j : b ≡ get_or s (p + 2) 0) where
+      pub next_other : (b ≡ n → ⊥) → false ≡ is_next x s n p
       unfolding is_next
-      next_other x = sym (and_last (is_good t s n p) (ne_eqb (get_or s (p + 2) 0) n (λ i. x (j ∙ i))))
+      next_other o = sym (and_last (is_good x s p) (ne_eqb (get_or s (p + 2) 0) n (λ i. o (j ∙ i))))
 
-      module _ (x : b ≡ n) where
+      module _ (o : b ≡ n) where
         named : eqb (get_or s (p + 2) 0) n ≡ true
-        named = eq-eqb (get_or s (p + 2) 0) n (sym j ∙ x)
+        named = eq-eqb (get_or s (p + 2) 0) n (sym j ∙ o)
 
-        pub next-bare : get_or t (16 * n + 6) 0 ≡ 0 → true ≡ is_next t s n p
+        pub next-bare : x.masks ≡ 0 → true ≡ is_next x s n p
         unfolding is_next
         next-bare z = sym (and_yes (sym (good_bare z)) named)
 
-        pub next-masks : (get_or t (16 * n + 6) 0 ≡ 0 → ⊥) → {u : Bool} → u ≡ masks_fit t s n (p + 3) → u ≡ is_next t s n p
+        pub next-masks : (x.masks ≡ 0 → ⊥) → {u : Bool} → u ≡ masks_fit x s (p + 3) → u ≡ is_next x s n p
         unfolding is_next
-        next-masks z d = good_masks z d ∙ sym (and-alone (is_good t s n p) named)
-
-  pub next_not : v ≡ false → false ≡ is_next t s n p
-  unfolding is_next
-  next_not h = sym (and_no (eqb (get_or s (p + 2) 0) n) (sym (good_not h)))
+        next-masks z d = good_masks z d ∙ sym (and-alone (is_good x s p) named)
 
 -- back
-pub next-back : (t s : List ℕ) (n p : ℕ) → is_next t s n p ≡ true → (is_good t s n p ≡ true) × (get_or s (p + 2) 0 ≡ n)
+pub next-back : (x : Layout) (s : List ℕ) (n p : ℕ) → is_next x s n p ≡ true → (is_good x s p ≡ true) × (get_or s (p + 2) 0 ≡ n)
 unfolding is_next
-next-back t s n p e = let both = and-true (is_good t s n p) (eqb (get_or s (p + 2) 0) n) e in (both.0, eqb-true (get_or s (p + 2) 0) n both.1)
+next-back x s n p e = let both = and-true (is_good x s p) (eqb (get_or s (p + 2) 0) n) e in (both.0, eqb-true (get_or s (p + 2) 0) n both.1)
+
+-- ---- a PN that stands at p is the first of what is left from p on
+
+module _ (s : List ℕ) (p : ℕ) (x : Layout) where
+  excess-left : (q k : ℕ) → excess_of x (drop p s) q k ≡ excess_of x s (p + q) k
+  unfolding excess_of
+  excess-left q k =
+      let z : p + (q + get_or x.skips k 0) ≡ p + q + get_or x.skips k 0 = omega arith in
+      ap (λ (m : ℕ). m * 2 ^ get_or x.spares k 0 / 2 ^ 32) (sym (be-stretch p s 4 (q + get_or x.skips k 0)) ∙ ap (be 4 s) z)
+
+  masks-left : (q : ℕ) → masks_fit x (drop p s) q ≡ masks_fit x s (p + q)
+  unfolding masks_fit
+  masks-left q = rw (excess-left q 0, excess-left q 1, excess-left q 2, excess-left q 3) refl
+
+  whole-left : (w : ℕ) → is_whole (drop p s) w 0 ≡ is_whole s w p
+  unfolding is_whole
+  whole-left w =
+      let z : length (drop p s) - 0 ≡ length s - p = omega (arith, length-drop p s) in
+      let m : be 2 (drop p s) 0 ≡ be 2 s p = sym (be-stretch p s 2 0) ∙ ap (be 2 s) (add-zero p) in
+      rw (z, m) refl
+
+  pub next-left : (n : ℕ) → is_next x (drop p s) n 0 ≡ is_next x s n p
+  unfolding is_next is_good
+  next-left n = rw (whole-left x.rule_width, masks-left 3, get_or-drop p s 2 0) refl
 
 -- ---- the masks
 
-module _ (t s : List ℕ) (n p k : ℕ) (w : Looking t s n p) (l : k < 4) where
-  pub mask_spare : get_or t (16 * n + 12 + k) 0 ≤ 32
+module _ (x : Layout) (s : List ℕ) (p k : ℕ) (w : Looking x s p) (l : k < 4) where
+  pub mask_spare : get_or x.spares k 0 ≤ 32
   mask_spare = w.spare k l
 
-  pub mask_there : p + get_or t (16 * n + 8 + k) 0 + 4 ≤ length s
+  pub mask_there : p + get_or x.skips k 0 + 4 ≤ length s
   mask_there = w.there k l
 
-  pub mask_fits : length s < 2 ^ 64 → Fits w64 (p + get_or t (16 * n + 8 + k) 0)
+  pub mask_fits : length s < 2 ^ 64 → Fits w64 (p + get_or x.skips k 0)
   mask_fits m = record { fits = omega (arith, mask_there) }
 
-pub excess-is : (t s : List ℕ) (n p k : ℕ) {u r : ℕ} → u ≡ be 4 s (p + get_or t (16 * n + 8 + k) 0) → r ≡ u * 2 ^ get_or t (16 * n + 12 + k) 0 / 2 ^ 32 → r ≡ excess_of t s n p k
+pub excess-is : (x : Layout) (s : List ℕ) (p k : ℕ) {u v r : ℕ} → u ≡ be 4 s (p + get_or x.skips k 0) → v ≡ get_or x.spares k 0 → r ≡ u * 2 ^ v / 2 ^ 32 → r ≡ excess_of x s p k
 unfolding excess_of
-excess-is t s n p k e d = d ∙ ap (λ (i : ℕ). i * 2 ^ get_or t (16 * n + 12 + k) 0 / 2 ^ 32) e
+excess-is x s p k e i d = d ∙ ap₂ (λ (u v : ℕ). u * 2 ^ v / 2 ^ 32) e i
 
 none_both : (x y : ℕ) → eqb (x + y) 0 ≡ (eqb x 0 && eqb y 0)
 none_both zero y = ap (λ (i : ℕ). eqb i 0) (zero-add y)
 none_both (suc x) y = ne_eqb (suc x + y) 0 (λ e. omega arith) ∙ sym (and_no (eqb y 0) (ne_eqb (suc x) 0 (λ e. omega arith)))
 
-pub masks-none : (t s : List ℕ) (n p : ℕ) {w x y z : ℕ} → w ≡ excess_of t s n p 0 → x ≡ excess_of t s n p 1 → y ≡ excess_of t s n p 2 → z ≡ excess_of t s n p 3
-    → eqb (w + x + (y + z)) 0 ≡ masks_fit t s n p
+pub masks-none : (l : Layout) (s : List ℕ) (p : ℕ) {w x y z : ℕ} → w ≡ excess_of l s p 0 → x ≡ excess_of l s p 1 → y ≡ excess_of l s p 2 → z ≡ excess_of l s p 3
+    → eqb (w + x + (y + z)) 0 ≡ masks_fit l s p
 unfolding masks_fit
-masks-none t s n p {w} {x} {y} {z} a b c d = rw (← a, ← b, ← c, ← d) (none_both (w + x) (y + z) ∙ ap₂ ◌&&◌ (none_both w x) (none_both y z))
+masks-none l s p {w} {x} {y} {z} a b c d = rw (← a, ← b, ← c, ← d) (none_both (w + x) (y + z) ∙ ap₂ ◌&&◌ (none_both w x) (none_both y z))

@@ -17,7 +17,8 @@ use Rattle.schema.specs.Schema.{Node, schema_of}
 use Rattle.policies.specs.Policies.{Rule, Policy, Head as PolicyHead, rules, head, policy, onward, policies_from, policies}
 use Rattle.policies.specs.Pass.{in_force}
 use Rattle.policies.specs.Widths.{policy_width}
-use Rattle.policies.specs.Rows.{note_policy, note_policies, rows_of, RowsRoom}
+use Rattle.policies.specs.Rows.{no_policies, note_policy, note_policies, rows_of, RowsRoom}
+use Rattle.policies.specs.declared.Row.{Row}
 use Rattle.policy_reader.specs.Runs.{head_read, Open, note_rules_if, note_in_force, left_of, Ready, left_over, Leaves, Turned}
 use Rattle.policy_reader.specs.Answers.{YieldsPolicies}
 use Rattle.policy_reader.specs.declared.Head.{Head}
@@ -48,12 +49,12 @@ headed (bad n o) e = absurd (let z : ◌≡◌ {A = ℕ} 0 1 = cc in omega arith
 
 -- ---- a head, then its PN
 
-policy-if : (keep : Bool) (h : ℕ) (x : Policy) (t : List ℕ) → note_rules_if keep h x.body x.rules t ≡ note_policy keep h x t
+policy-if : (keep : Bool) (h : ℕ) (x : Policy) (t : List Row) → note_rules_if keep h x.body x.rules t ≡ note_policy keep h x t
 unfolding note_rules_if note_policy
 policy-if true h x t = refl
 policy-if false h x t = refl
 
-rules-first : (a b h : ℕ) (r : Got (List Rule)) (f l p : ℕ) (keep : Bool) (t : List ℕ) → keep ≡ (leb f b && leb a l)
+rules-first : (a b h : ℕ) (r : Got (List Rule)) (f l p : ℕ) (keep : Bool) (t : List Row) → keep ≡ (leb f b && leb a l)
     → run_of (note_rules_if keep h p) r t ≡ run_of (note_in_force a b h) (part r (λ xs q. got (record { first = f; last = l; body = p; rules = xs }) q)) t
 unfolding note_in_force in_force part
 rules-first a b h (got xs q) f l p keep t e =
@@ -66,12 +67,12 @@ module _ (s : List ℕ) (h : ℕ) where
   there : {x : Got Head} → x ≡ head_read (head (take (length s - h) (drop h s))) → x ≡ head_read (head (drop h s))
   there e = e ∙ ap (λ (b : List ℕ). head_read (head b)) (rest s h)
 
-  module _ (g : List Node) (a b : ℕ) (t : List ℕ) where
+  module _ (g : List Node) (a b : ℕ) (t : List Row) where
     pub policy_bad : {m o : ℕ} → bad m o ≡ head_read (head (take (length s - h) (drop h s))) → refused m o ≡ run_of (note_in_force a b h) (policy g (drop h s)) t
     unfolding policy part
     policy_bad e = rw (headless (head (drop h s)) (there e))
 
-    pub policy_rules : {x : Head} {q : ℕ} {Y : Run (List ℕ)} {keep : Bool} → got x q ≡ head_read (head (take (length s - h) (drop h s))) → keep ≡ (leb x.first b && leb a x.last)
+    pub policy_rules : {x : Head} {q : ℕ} {Y : Run (List Row)} {keep : Bool} → got x q ≡ head_read (head (take (length s - h) (drop h s))) → keep ≡ (leb x.first b && leb a x.last)
         → Y ≡ left_of g (take (length s - h) (drop h s)) keep h x.count 0 q t → Y ≡ run_of (note_in_force a b h) (policy g (drop h s)) t
     unfolding policy part
     policy_rules {x} {q} {keep = keep} e i y =
@@ -91,23 +92,23 @@ stretch_fits s h l m = rw (rest s h, length-drop h s) (omega arith)
 
 -- ---- the file
 
-note-more : (a b p : ℕ) (r : Got (List Policy)) (x : Policy) (t : List ℕ)
+note-more : (a b p : ℕ) (r : Got (List Policy)) (x : Policy) (t : List Row)
     → run_of (note_policies (in_force a b) p) (part r (λ xs q. got (x ∷ xs) q)) t ≡ run_of (note_policies (in_force a b) (p + policy_width x)) r (note_in_force a b p x t)
 unfolding note_policies note_in_force part
 note-more a b p (got xs q) x t = refl
 note-more a b p (bad n o) x t = refl
 
 -- before the first turn
-pub file_init : (schema s : List ℕ) (a b : ℕ) (t : List ℕ) → RowsRoom schema t
+pub file_init : (schema s : List ℕ) (a b : ℕ) (t : List Row) → RowsRoom schema t
     → Leaves (schema_of schema) s a b 0 0 t (run_of (note_policies (in_force a b) 0) (policies (schema_of schema) s) t)
 unfolding policies
 file_init schema s a b t w = record { upto = omega arith; few = λ n. (counted-init t w.blank).from n (omega arith); left = refl }
 
-module _ (schema s : List ℕ) (a b j p : ℕ) (t : List ℕ) (w : Ready schema j t) where
+module _ (schema s : List ℕ) (a b j p : ℕ) (t : List Row) (w : Ready schema j t) where
   abbrev g : List Node
   g = schema_of schema
 
-  abbrev from : ℕ → Run (List ℕ)
+  abbrev from : ℕ → Run (List Row)
   from k = run_of (note_policies (in_force a b) p) (policies_from g s k p) t
 
   pub turn_end : length s ≤ p → did p t ≡ left_over g s a b j p t
@@ -144,7 +145,7 @@ module _ (schema s : List ℕ) (a b j p : ℕ) (t : List ℕ) (w : Ready schema 
           omega (arith, length-drop p s)
 
     -- or read
-    module _ (u : List ℕ) {q : ℕ} (e : did q u ≡ run_of (note_in_force a b p) (policy g (drop p s)) t) where
+    module _ (u : List Row) {q : ℕ} (e : did q u ≡ run_of (note_in_force a b p) (policy g (drop p s)) t) where
       read : Filled (note_in_force a b p) (policy g (drop p s)) t u q
       read = ran (note_in_force a b p) (policy g (drop p s)) t u e
 
@@ -176,22 +177,22 @@ module _ (schema s : List ℕ) (a b j p : ℕ) (t : List ℕ) (w : Ready schema 
           omega (arith, length-drop p s)
 
 -- the rows have room for one more policy
-pub turn_open : (s : List ℕ) (j : ℕ) (rows : List ℕ) → Ready s j rows → (j ≡ 16 → ⊥) → Open (length (schema_of s)) 0 rows
+pub turn_open : (s : List ℕ) (j : ℕ) (rows : List Row) → Ready s j rows → (j ≡ 16 → ⊥) → Open (length (schema_of s)) 0 rows
 turn_open s j rows w n = record { long = w.long; room = λ m l. omega (arith, w.few m, w.upto) }
 
 -- what a turn asks for
-pub turn_ready : (s rows : List ℕ) {p : List ℕ} {a b j q : ℕ} {u : List ℕ} {X : Run (List ℕ)} → RowsRoom s rows → length u ≡ length rows
+pub turn_ready : (s : List ℕ) (rows : List Row) {p : List ℕ} {a b j q : ℕ} {u : List Row} {X : Run (List Row)} → RowsRoom s rows → length u ≡ length rows
     → Leaves (schema_of s) p a b j q u X → Ready s j u
 turn_ready s rows w e i = record { upto = i.upto; long = omega (arith, w.long); few = i.few }
 
 -- after a turn
-module _ (schema p : List ℕ) (a b j q : ℕ) (t : List ℕ) {X : Run (List ℕ)} (i : Leaves (schema_of schema) p a b j q t X) where
-  pub file_next : (r : ℕ) (u : List ℕ) → Turned (schema_of schema) p a b j q t (Ok (Some r)) u → Leaves (schema_of schema) p a b (j + 1) r u X
+module _ (schema p : List ℕ) (a b j q : ℕ) (t : List Row) {X : Run (List Row)} (i : Leaves (schema_of schema) p a b j q t X) where
+  pub file_next : (r : ℕ) (u : List Row) → Turned (schema_of schema) p a b j q t (Ok (Some r)) u → Leaves (schema_of schema) p a b (j + 1) r u X
   file_next r u y = record { upto = y.upto; few = y.few; left = y.left ∙ i.left }
 
 -- ---- the answer and the rows
 
-pub file_yields : (schema s : List ℕ) (a b : ℕ) (t u : List ℕ) (f : Result ℕ Breach) → RowsRoom schema t → length u ≡ length t
+pub file_yields : (schema s : List ℕ) (a b : ℕ) (t u : List Row) (f : Result ℕ Breach) → RowsRoom schema t → length u ≡ length t
     → outcome f u ≡ run_of (note_policies (in_force a b) 0) (policies (schema_of schema) s) t → YieldsPolicies schema s a b f u
 unfolding rows_of
 file_yields schema s a b t u f w l e =
@@ -201,8 +202,8 @@ file_yields schema s a b t u f w l e =
       long = omega (arith, w.long);
     }
   where
-    blank : t ≡ replicate (length u) 0
-    blank = w.blank ∙ ap (λ (m : ℕ). replicate m 0) (sym l)
+    blank : t ≡ replicate (length u) no_policies
+    blank = w.blank ∙ ap (λ (m : ℕ). replicate m no_policies) (sym l)
 
     noted : (f : Result ℕ Breach) (ps : List Policy) (q : ℕ) → outcome f u ≡ did q (note_policies (in_force a b) 0 ps t) → u ≡ rows_of (in_force a b) (length u) ps
     noted (Ok p) ps q z = let v : u ≡ note_policies (in_force a b) 0 ps t = cc in v ∙ ap (note_policies (in_force a b) 0 ps) blank

@@ -3,12 +3,13 @@
 use mathlib.Core.Path.{◌≡◌, refl, ap, sym, subst, ◌∙◌}
 use mathlib.Core.Bool.{Bool, true, false, cond, ◌&&◌, ◌||◌}
 use mathlib.Core.List.{List, [], ◌∷◌}
-use Prim.Native.Nat.{ℕ, suc, ◌+◌, ◌-◌, ◌*◌, ◌%◌, ◌≤◌, ◌<◌}
+use Prim.Native.Nat.{ℕ, suc, ◌+◌, ◌-◌, ◌≤◌, ◌<◌}
 use native.Mathlib.Omega.{arith}
 use native.Mathlib.Nat.{zero-add}
 use borrow.Author.Tests.{le-leb, lt-leb, lt-ltb, le-ltb, eq-eqb}
-use lib.ListN.{length, get_or, set, length-set}
+use lib.ListN.{length, get_or, set, take, drop, length-drop}
 use lib.Dec.{leb, ltb, eqb}
+use lib.Seq.{drop-drop}
 use Rattle.fields.specs.Reading.{Got, got, bad, part, be, whole, field, mark, many}
 use Rattle.fields.specs.Answers.{end_of}
 use Rattle.fields.specs.Runs.{Run, did, refused, run_of}
@@ -16,20 +17,21 @@ use Rattle.fields.proofs.Reading.{stepped, stopped, whole_got}
 use Rattle.fields.proofs.Back.{be1}
 use Rattle.fields.proofs.Tests.{and-true}
 use Rattle.schema.specs.Schema.{Node, node_at, schema_of}
-use Rattle.schema.specs.Layout.{Laid}
-use Rattle.schema.specs.Table.{Tabled}
-use Rattle.schema.proofs.Access.{laid}
+use Rattle.schema.specs.Table.{layout_at, Tabled}
+use Rattle.schema.specs.declared.Layout.{Layout}
 use Rattle.policies.specs.Policies.{Rule, PN, rule_of, rule, rules}
 use Rattle.policies.specs.Widths.{rule_width}
-use Rattle.fields.specs.Shorts.{short}
-use Rattle.policies.specs.Rows.{row_slot, note, note_rules}
+use Rattle.policies.specs.Rows.{no_policies, note, note_at, note_rules}
+use Rattle.std.proofs.lemmas.List.{get_or_default}
+use Rattle.policies.specs.declared.Row.{Row}
 use Rattle.policy_reader.specs.Body.{masks_fit, is_whole, is_good, is_next, Shape, Shapes}
-use Rattle.policy_reader.specs.Runs.{rule_read, Room, Open, note_if, note_rules_if, left_of, InRow, RowEnd, none, more, Row}
+use Rattle.policy_reader.specs.Runs.{rule_read, Room, Open, note_if, note_rules_if, left_of, InRow, RowEnd, none, more, Taken}
 use Rattle.policies.proofs.Nodes.{nodes-few}
+use Rattle.policies.proofs.Part.{rest}
 use Rattle.policies.proofs.Rows.{note-length, note-other}
 use Rattle.policies.proofs.Stands.{rule-of-back, rule-back}
 use Rattle.policies.proofs.Within.{pn-within}
-use Rattle.policy_reader.proofs.Body.{whole-inside, shape_of, good-read, next-back, shapes-of}
+use Rattle.policy_reader.proofs.Body.{whole-inside, shape_of, good-read, next-back, next-left, shapes-of}
 
 -- ---- one PN
 
@@ -80,20 +82,20 @@ rule-none (bad m o) e = cc
 
 -- ---- a PN that is plainly good
 
-good_whole : (t s : List ℕ) (n p : ℕ) → is_good t s n p ≡ true → is_whole s (get_or t (16 * n + 5) 0) p ≡ true
+good_whole : (x : Layout) (s : List ℕ) (p : ℕ) → is_good x s p ≡ true → is_whole s x.rule_width p ≡ true
 unfolding is_good
-good_whole t s n p e = (and-true (is_whole s (get_or t (16 * n + 5) 0) p) (eqb (get_or t (16 * n + 6) 0) 0 || masks_fit t s n (p + 3)) e).0
+good_whole x s p e = (and-true (is_whole s x.rule_width p) (eqb x.masks 0 || masks_fit x s (p + 3)) e).0
 
-module _ (schema t s : List ℕ) (low n p : ℕ) {count : ℕ} (d : Tabled schema t) (c : count ≡ length (schema_of schema)) (a : low ≤ n) (b : n < count)
-    (i : n ≡ get_or s (p + 2) 0) (l : p ≤ length s) (e : is_good t s n p ≡ true) where
-  w : Laid (schema_of schema) t
-  w = laid schema t d
+module _ (schema : List ℕ) (t : List Layout) (s : List ℕ) (low n p : ℕ) {count : ℕ} (d : Tabled schema t) (c : count ≡ length (schema_of schema))
+    (a : low ≤ n) (b : n < count) (i : n ≡ get_or s (p + 2) 0) (l : p ≤ length s) (e : is_good (layout_at t n) s p ≡ true) where
+  abbrev x : Layout
+  x = layout_at t n
 
-  inside : (get_or t (16 * n + 5) 0 ≤ length s - p) × (be 2 s p ≡ be 2 PN 0)
-  inside = whole-inside s (get_or t (16 * n + 5) 0) p (good_whole t s n p e)
+  inside : (x.rule_width ≤ length s - p) × (be 2 s p ≡ be 2 PN 0)
+  inside = whole-inside s x.rule_width p (good_whole x s p e)
 
-  three : 3 ≤ get_or t (16 * n + 5) 0
-  three = (shape_of schema t n w (omega (arith, c))).least
+  three : 3 ≤ x.rule_width
+  three = (shape_of schema t n d (omega (arith, c))).least
 
   marked : got tt (p + 2) ≡ end_of (mark PN s p)
   unfolding mark field part
@@ -102,52 +104,46 @@ module _ (schema t s : List ℕ) (low n p : ℕ) {count : ℕ} (d : Tabled schem
   named : got n (p + 2 + 1) ≡ whole 1 s (p + 2)
   named = rw (whole_got 1 s (p + 2) (omega (arith, inside.0, three)), be1 s (p + 2), i)
 
-  body : got tt (p + get_or t (16 * n + 5) 0) ≡ end_of (rule_of s (node_at (schema_of schema) n) n (p + 2 + 1))
-  body = let z : p + 2 + 1 ≡ p + 3 = omega arith in rw z (good-read schema t n w (omega (arith, c)) s p e l)
+  body : got tt (p + x.rule_width) ≡ end_of (rule_of s (node_at (schema_of schema) n) n (p + 2 + 1))
+  body = let z : p + 2 + 1 ≡ p + 3 = omega arith in rw z (good-read schema t n d (omega (arith, c)) s p e l)
 
-  pub good_rule : got n (p + get_or t (16 * n + 5) 0) ≡ rule_read (rule (schema_of schema) s low p)
+  pub good_rule : got n (p + x.rule_width) ≡ rule_read (rule (schema_of schema) s low p)
   good_rule = rule_named schema s low p marked named c a b body
 
-  pub good_end : p + get_or t (16 * n + 5) 0 ≤ length s
+  pub good_end : p + x.rule_width ≤ length s
   good_end = omega (arith, inside.0, three)
 
-pub take_shape : (schema t : List ℕ) (n : ℕ) {count : ℕ} → Tabled schema t → count ≡ length (schema_of schema) → n < count → Shape t n
-take_shape schema t n d c b = shape_of schema t n (laid schema t d) (omega (arith, c))
+pub take_shape : (schema : List ℕ) (t : List Layout) (n : ℕ) {count : ℕ} → Tabled schema t → count ≡ length (schema_of schema) → n < count → Shape (layout_at t n)
+take_shape schema t n d c b = shape_of schema t n d (omega (arith, c))
+
+pub take_inside : (schema : List ℕ) (t : List Layout) (n : ℕ) {count : ℕ} → Tabled schema t → count ≡ length (schema_of schema) → n < count → n < length t
+take_inside schema t n d c b = omega (arith, c, d.long)
 
 -- ---- the rows
 
-pub if_kept : (keep : Bool) (n o : ℕ) (t : List ℕ) → keep ≡ true
-    → set (set t (row_slot n + 1 + get_or t (row_slot n) 0) (o % 65536)) (row_slot n) (get_or t (row_slot n) 0 + 1) ≡ note_if keep n o t
-unfolding note_if note short
-if_kept keep n o t e = rw e
+pub if_kept : (keep : Bool) (n o : ℕ) (t : List Row) (d : Row) {x : Row} → x ≡ note o (get_or t n d) → Room t n → keep ≡ true → set t n x ≡ note_if keep n o t
+unfolding note_if note_at
+if_kept keep n o t d i r e = rw (e, i, get_or_default t n d no_policies r.inside)
 
-pub if_slot : (t : List ℕ) (n i v : ℕ) → Room t n → row_slot n < length (set t i v)
-if_slot t n i v w = omega (arith, w.long, length-set t i v)
-
-pub if_not : (keep : Bool) (n o : ℕ) (t : List ℕ) → keep ≡ false → t ≡ note_if keep n o t
+pub if_not : (keep : Bool) (n o : ℕ) (t : List Row) → keep ≡ false → t ≡ note_if keep n o t
 unfolding note_if
 if_not keep n o t e = rw e
 
-pub open-room : (count low : ℕ) (t : List ℕ) (n : ℕ) → Open count low t → low ≤ n → n < count → Room t n
-open-room count low t n w a b = record { long = omega (arith, w.long); room = w.room n a }
+pub open-room : (count low : ℕ) (t : List Row) (n : ℕ) → Open count low t → low ≤ n → n < count → Room t n
+open-room count low t n w a b = record { inside = omega (arith, w.long); room = w.room n a }
 
-note-if-length : (keep : Bool) (n o : ℕ) (t : List ℕ) → length (note_if keep n o t) ≡ length t
+note-if-length : (keep : Bool) (n o : ℕ) (t : List Row) → length (note_if keep n o t) ≡ length t
 unfolding note_if
 note-if-length true n o t = note-length n o t
 note-if-length false n o t = refl
 
-open_next : (keep : Bool) (count low n o : ℕ) (t : List ℕ) → Open count low t → low ≤ n → Open count (n + 1) (note_if keep n o t)
+open_next : (keep : Bool) (count low n o : ℕ) (t : List Row) → Open count low t → low ≤ n → Open count (n + 1) (note_if keep n o t)
 unfolding note_if
 open_next true count low n o t w a =
-    record {
-      long = omega (arith, w.long, note-length n o t);
-      room = λ m l.
-          let e : row_slot m + 0 ≡ row_slot m = omega arith in
-          omega (arith, w.room m (omega arith), rw e at (note-other n o t (w.room n a) m 0 (omega arith) (λ z. omega arith)));
-    }
+    record { long = omega (arith, w.long, note-length n o t); room = λ m l. rw (note-other n o t m (λ z. omega arith)) (w.room m (omega arith)) }
 open_next false count low n o t w a = record { long = w.long; room = λ m l. w.room m (omega arith) }
 
-note-first : (keep : Bool) (h p : ℕ) (r : Got (List Rule)) (x : Rule) (t : List ℕ)
+note-first : (keep : Bool) (h p : ℕ) (r : Got (List Rule)) (x : Rule) (t : List Row)
     → run_of (note_rules_if keep h p) (part r (λ xs q. got (x ∷ xs) q)) t ≡ run_of (note_rules_if keep h (p + rule_width x)) r (note_if keep x.node (h + p + 3) t)
 unfolding note_rules_if note_if note_rules part
 note-first true h p (got xs q) x t = refl
@@ -155,7 +151,7 @@ note-first false h p (got xs q) x t = refl
 note-first true h p (bad n o) x t = refl
 note-first false h p (bad n o) x t = refl
 
-none-noted : (keep : Bool) (h p : ℕ) (t : List ℕ) {X : Run (List ℕ)} → run_of (note_rules_if keep h p) (got [] p) t ≡ X → did p t ≡ X
+none-noted : (keep : Bool) (h p : ℕ) (t : List Row) {X : Run (List Row)} → run_of (note_rules_if keep h p) (got [] p) t ≡ X → did p t ≡ X
 unfolding note_rules_if note_rules
 none-noted true h p t e = e
 none-noted false h p t e = e
@@ -164,7 +160,7 @@ none-noted false h p t e = e
 
 module _ (g : List Node) (s : List ℕ) (low p : ℕ) {n q : ℕ} (e : got n q ≡ rule_read (rule g s low p)) where
   -- it is the first of those that were left
-  left-next : (keep : Bool) (d k : ℕ) (t : List ℕ) → left_of g s keep d k (n + 1) q (note_if keep n (d + p + 3) t) ≡ left_of g s keep d (suc k) low p t
+  left-next : (keep : Bool) (d k : ℕ) (t : List Row) → left_of g s keep d k (n + 1) q (note_if keep n (d + p + 3) t) ≡ left_of g s keep d (suc k) low p t
   unfolding rules many part
   left-next keep d k t =
       let x = rule-took (rule g s low p) e in
@@ -189,51 +185,72 @@ module _ (g : List Node) (s : List ℕ) (low p : ℕ) {n q : ℕ} (e : got n q �
 
 -- ---- in a row
 
-pub row_init : (t s : List ℕ) (keep : Bool) (h from : ℕ) (u : List ℕ) (count : ℕ) → from ≤ length s → Open count 0 u → Row t s keep h from u count 0 from u
-row_init t s keep h from u count l w = record { row = none; most = omega arith; inside = l; same = refl; room = w }
+-- those of the nodes below n were walked over: r is what is left of the policy
+pub record Walked (t : List Layout) (s : List ℕ) (keep : Bool) (h from : ℕ) (u₀ : List Row) (count n p : ℕ) (u : List Row) (r : List ℕ) : Type 0 where
+  pub taken : Taken t s keep h from u₀ count n p u
+  pub left : r ≡ drop p s
 
-module _ (t s : List ℕ) (keep : Bool) (h from : ℕ) (u₀ : List ℕ) (count n p : ℕ) (u : List ℕ) (i : Row t s keep h from u₀ count n p u) where
-  pub row_all : count ≤ n → Row t s keep h from u₀ count count p u
-  row_all l = let z : n ≡ count = omega (arith, i.most) in subst (λ (m : ℕ). Row t s keep h from u₀ count m p u) z i
+pub row_init : (t : List Layout) (s : List ℕ) (keep : Bool) (h from : ℕ) (u : List Row) (count : ℕ) → from ≤ length s → Open count 0 u
+    → Walked t s keep h from u count 0 from u (take (length s - from) (drop from s))
+row_init t s keep h from u count l w =
+    record { taken = record { row = none; most = omega arith; inside = l; same = refl; room = w }; left = rest s from }
+
+module _ (t : List Layout) (s : List ℕ) (keep : Bool) (h from : ℕ) (u₀ : List Row) (count n p : ℕ) (u : List Row) (r : List ℕ)
+    (i : Walked t s keep h from u₀ count n p u r) where
+  pub row_all : count ≤ n → Taken t s keep h from u₀ count count p u
+  row_all l = let z : n ≡ count = omega (arith, i.taken.most) in subst (λ (m : ℕ). Taken t s keep h from u₀ count m p u) z i.taken
 
   module _ (l : n < count) where
     pub row_room : Room u n
-    row_room = open-room count n u n i.room (omega arith) l
+    row_room = open-room count n u n i.taken.room (omega arith) l
 
     module _ (w : Shapes t count) where
-      pub row_shape : Shape t n
+      pub row_shape : Shape (layout_at t n)
       row_shape = w.each n l
 
-      module _ (e : is_next t s n p ≡ true) where
-        row_inside : get_or t (16 * n + 5) 0 ≤ length s - p
-        row_inside = (whole-inside s (get_or t (16 * n + 5) 0) p (good_whole t s n p (next-back t s n p e).0)).0
+      pub row_layout : n < length t
+      row_layout = omega (arith, w.long)
 
-        pub row_end : p + get_or t (16 * n + 5) 0 ≤ length s
+      module _ (e : is_next (layout_at t n) r n 0 ≡ true) where
+        here : is_next (layout_at t n) s n p ≡ true
+        here = sym (ap (λ (b : List ℕ). is_next (layout_at t n) b n 0) i.left ∙ next-left s p (layout_at t n) n) ∙ e
+
+        row_inside : (layout_at t n).rule_width ≤ length s - p
+        row_inside = (whole-inside s (layout_at t n).rule_width p (good_whole (layout_at t n) s p (next-back (layout_at t n) s n p here).0)).0
+
+        pub row_part : (layout_at t n).rule_width ≤ length r
+        row_part = rw i.left (omega (arith, row_inside, length-drop p s))
+
+        pub row_end : p + (layout_at t n).rule_width ≤ length s
         row_end = omega (arith, row_inside, row_shape.least)
 
         pub row_offset : p + 3 ≤ length s
         row_offset = omega (arith, row_end, row_shape.least)
 
-        pub row_step : {y : List ℕ} → y ≡ note_if keep n (h + p + 3) u → Row t s keep h from u₀ count (n + 1) (p + get_or t (16 * n + 5) 0) y
-        row_step o = rw o
+        pub row_step : {m : ℕ} {y : List Row} → m ≡ (layout_at t n).rule_width → y ≡ note_if keep n (h + p + 3) u
+            → Walked t s keep h from u₀ count (n + 1) (p + m) y (take (length r - m) (drop m r))
+        row_step {m} j o = rw (j, o)
             (record {
-              row = more i.row e;
-              most = omega arith;
-              inside = row_end;
-              same = note-if-length keep n (h + p + 3) u ∙ i.same;
-              room = open_next keep count n n (h + p + 3) u i.room (omega arith);
+              taken = record {
+                row = more i.taken.row here;
+                most = omega arith;
+                inside = row_end;
+                same = note-if-length keep n (h + p + 3) u ∙ i.taken.same;
+                room = open_next keep count n n (h + p + 3) u i.taken.room (omega arith);
+              };
+              left = rest r (layout_at t n).rule_width ∙ ap (drop (layout_at t n).rule_width) i.left ∙ drop-drop (layout_at t n).rule_width p s;
             })
 
 -- what is left after those equals what was left before
-module _ (schema t s : List ℕ) {count : ℕ} (x : Tabled schema t) (c : count ≡ length (schema_of schema)) where
-  row_named : (n p : ℕ) → n < count → is_next t s n p ≡ true → got n (p + get_or t (16 * n + 5) 0) ≡ rule_read (rule (schema_of schema) s n p)
+module _ (schema : List ℕ) (t : List Layout) (s : List ℕ) {count : ℕ} (x : Tabled schema t) (c : count ≡ length (schema_of schema)) where
+  row_named : (n p : ℕ) → n < count → is_next (layout_at t n) s n p ≡ true → got n (p + (layout_at t n).rule_width) ≡ rule_read (rule (schema_of schema) s n p)
   row_named n p b e =
-      let d = next-back t s n p e in
-      let i = (whole-inside s (get_or t (16 * n + 5) 0) p (good_whole t s n p d.0)).0 in
+      let d = next-back (layout_at t n) s n p e in
+      let i = (whole-inside s (layout_at t n).rule_width p (good_whole (layout_at t n) s p d.0)).0 in
       let k : p ≤ length s = omega (arith, (take_shape schema t n x c b).least) in
       good_rule schema t s n n p x c (omega arith) b (sym d.1) k d.0
 
-  row-left : (keep : Bool) (h from : ℕ) (u₀ : List ℕ) {n p : ℕ} {u : List ℕ} → InRow t s keep h from u₀ n p u → n ≤ count
+  row-left : (keep : Bool) (h from : ℕ) (u₀ : List Row) {n p : ℕ} {u : List Row} → InRow t s keep h from u₀ n p u → n ≤ count
       → (k : ℕ) → left_of (schema_of schema) s keep h k n p u ≡ left_of (schema_of schema) s keep h (n + k) 0 from u₀
   row-left keep h from u₀ none l k = ap (λ (m : ℕ). left_of (schema_of schema) s keep h m 0 from u₀) (sym (zero-add k))
   row-left keep h from u₀ (more {n = n} {p} {u} r d) l k =
@@ -244,19 +261,19 @@ module _ (schema t s : List ℕ) {count : ℕ} (x : Tabled schema t) (c : count 
 -- ---- the rest
 
 -- j of n are read: what is left to read and to note equals the whole; the rows are as long as they were, and open
-pub record Noting (g : List Node) (s : List ℕ) (keep : Bool) (h n low₀ p₀ : ℕ) (t₀ : List ℕ) (count j low p : ℕ) (t : List ℕ) : Type 0 where
+pub record Noting (g : List Node) (s : List ℕ) (keep : Bool) (h n low₀ p₀ : ℕ) (t₀ : List Row) (count j low p : ℕ) (t : List Row) : Type 0 where
   pub left : left_of g s keep h (n - j) low p t ≡ left_of g s keep h n low₀ p₀ t₀
   pub same : length t ≡ length t₀
   pub inside : p ≤ length s
   pub room : Open count low t
 
-pub rest_init : (g : List Node) (s : List ℕ) (keep : Bool) (h count n low p : ℕ) (t : List ℕ) → p ≤ length s → Open count low t
+pub rest_init : (g : List Node) (s : List ℕ) (keep : Bool) (h count n low p : ℕ) (t : List Row) → p ≤ length s → Open count low t
     → Noting g s keep h n low p t count 0 low p t
 rest_init g s keep h count n low p t l w =
     let z : n - 0 ≡ n = omega arith in
     record { left = ap (λ (i : ℕ). left_of g s keep h i low p t) z; same = refl; inside = l; room = w }
 
-module _ (schema s : List ℕ) (keep : Bool) (h n low₀ p₀ : ℕ) (t₀ : List ℕ) (count j low p : ℕ) (t : List ℕ)
+module _ (schema s : List ℕ) (keep : Bool) (h n low₀ p₀ : ℕ) (t₀ : List Row) (count j low p : ℕ) (t : List Row)
     (i : Noting (schema_of schema) s keep h n low₀ p₀ t₀ count j low p t) where
   abbrev g : List Node
   g = schema_of schema
@@ -274,7 +291,7 @@ module _ (schema s : List ℕ) (keep : Bool) (h n low₀ p₀ : ℕ) (t₀ : Lis
     rest_bad x = rw (sym more_left, rule-none (rule g s low p) x) at i.left
 
     module _ {v q : ℕ} (x : got v q ≡ rule_read (rule g s low p)) where
-      pub rest_step : {y : List ℕ} → y ≡ note_if keep v (h + p + 3) t → Noting g s keep h n low₀ p₀ t₀ count (j + 1) (v + 1) q y
+      pub rest_step : {y : List Row} → y ≡ note_if keep v (h + p + 3) t → Noting g s keep h n low₀ p₀ t₀ count (j + 1) (v + 1) q y
       rest_step o =
           rw o
           (record {
@@ -295,20 +312,20 @@ module _ (schema s : List ℕ) (keep : Bool) (h n low₀ p₀ : ℕ) (t₀ : Lis
 
 -- ---- all of them
 
-pub shapes_end : (schema t : List ℕ) {count k r : ℕ} → Tabled schema t → count ≡ length (schema_of schema) → RowEnd k count r → Shapes t r
+pub shapes_end : (schema : List ℕ) (t : List Layout) {count k r : ℕ} → Tabled schema t → count ≡ length (schema_of schema) → RowEnd k count r → Shapes t r
 shapes_end schema t d c e =
     let w = shapes-of schema t d in
     record { few = omega (arith, c, w.few, e.most); long = omega (arith, c, w.long, e.most); each = λ n l. w.each n (omega (arith, c, e.most)) }
 
-pub open_end : (count low : ℕ) (t : List ℕ) {k r : ℕ} → Open count low t → RowEnd k count r → Open r low t
+pub open_end : (count low : ℕ) (t : List Row) {k r : ℕ} → Open count low t → RowEnd k count r → Open r low t
 open_end count low t w e = record { long = omega (arith, w.long, e.most); room = w.room }
 
-module _ (schema t s : List ℕ) (keep : Bool) (h from : ℕ) (u₀ : List ℕ) (count n p : ℕ) (u : List ℕ) {k r : ℕ} (x : Tabled schema t)
-    (c : count ≡ length (schema_of schema)) (d : RowEnd k count r) (i : Row t s keep h from u₀ r n p u) where
+module _ (schema : List ℕ) (t : List Layout) (s : List ℕ) (keep : Bool) (h from : ℕ) (u₀ : List Row) (count n p : ℕ) (u : List Row) {k r : ℕ} (x : Tabled schema t)
+    (c : count ≡ length (schema_of schema)) (d : RowEnd k count r) (i : Taken t s keep h from u₀ r n p u) where
   pub row_open : Open count 0 u₀ → Open count n u
   row_open w = record { long = omega (arith, w.long, i.same); room = i.room.room }
 
-  pub rules_row : {Y : Run (List ℕ)} → Y ≡ left_of (schema_of schema) s keep h (k - n) n p u → Y ≡ left_of (schema_of schema) s keep h k 0 from u₀
+  pub rules_row : {Y : Run (List Row)} → Y ≡ left_of (schema_of schema) s keep h (k - n) n p u → Y ≡ left_of (schema_of schema) s keep h k 0 from u₀
   rules_row {Y} y =
       y ∙ row-left schema t s x c keep h from u₀ i.row (omega (arith, i.most, d.most)) (k - n)
       ∙ ap (λ (m : ℕ). left_of (schema_of schema) s keep h m 0 from u₀) (let z : n + (k - n) ≡ k = omega (arith, i.most, d.few) in z)

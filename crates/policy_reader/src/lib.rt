@@ -9,14 +9,14 @@ ghost use Rattle.schema.specs.Schema.{schema_of};
 ghost use Rattle.policies.specs.Policies.{rule, head, policy};
 ghost use Rattle.policies.specs.Rows.{RowsRoom};
 ghost use Rattle.policy_reader.specs.Body.{excess_of, masks_fit, Looking, is_whole, is_good, is_next, Shape, Shapes};
-ghost use Rattle.policy_reader.specs.Runs.{head_read, rule_read, note_if, note_in_force, left_of, Room, Open, Row, RowEnd, Ready, Turned};
+ghost use Rattle.policy_reader.specs.Runs.{head_read, rule_read, note_if, note_in_force, left_of, Room, Open, Taken, RowEnd, Ready, Turned};
 ghost use Rattle.policy_reader.specs.Answers.{YieldsPolicies};
 
 use fields::{BigEndian, Breach, Fault};
 use nodes::Schema;
-use policies::{MOST_POLICIES, ROW_SLOTS};
+use policies::{MOST_POLICIES, Row};
 use reading::{read, read_mark};
-use schema::NODE_SLOTS;
+use schema::Layout;
 
 // A policy's head: its days, and how many PN follow.
 #[derive(Clone, Copy)]
@@ -48,28 +48,28 @@ fn read_head(b: &[u8]) -> Result<(Head, usize), Breach>
     Ok((Head { first, last, count }, next))
 }
 
-// The bits of a mask that no value of its variable has, as a number: that of node n's variable k, in a PN whose ranks begin at
+// The bits of a mask that no value of its variable has, as a number: that of a node's variable k, in a PN whose ranks begin at
 // a position; 0 where the variable is a number.
 #[tactic(auto, using(crate::proofs::Body::mask_spare, crate::proofs::Body::mask_there, crate::proofs::Body::mask_fits))]
-fn excess(table: &[u16], n: usize, k: usize, b: &[u8], from: usize) -> u32
-    requires looking { Looking table.now b.now n from }
+fn excess(layout: &Layout, k: usize, b: &[u8], from: usize) -> u32
+    requires looking { Looking layout.now b.now from }
     requires k_bound { k < 4 }
-    ensures { result ≡ excess_of table.now b.now n from k }
+    ensures { result ≡ excess_of layout.now b.now from k }
 {
-    let skip = table[NODE_SLOTS * n + 8 + k] as usize;
-    let spare = table[NODE_SLOTS * n + 12 + k];
-    numbers::highest(u32::get(b, from + skip), spare)
+    let skip = layout.skips[k] as usize;
+    let spare = layout.spares[k];
+    numbers::highest(u32::get(b, from + skip), u16::from(spare))
 }
 
-// Whether the masks of node n fit their variables, in a PN whose ranks begin at a position: all four at once, without a branch.
-fn masks_good(table: &[u16], n: usize, b: &[u8], from: usize) -> bool
-    requires { Looking table.now b.now n from }
-    ensures { result ≡ masks_fit table.now b.now n from }
+// Whether the masks of a node fit their variables, in a PN whose ranks begin at a position: all four at once, without a branch.
+fn masks_good(layout: &Layout, b: &[u8], from: usize) -> bool
+    requires { Looking layout.now b.now from }
+    ensures { result ≡ masks_fit layout.now b.now from }
 {
-    let w = excess(table, n, 0, b, from) as u64;
-    let x = excess(table, n, 1, b, from) as u64;
-    let y = excess(table, n, 2, b, from) as u64;
-    let z = excess(table, n, 3, b, from) as u64;
+    let w = excess(layout, 0, b, from) as u64;
+    let x = excess(layout, 1, b, from) as u64;
+    let y = excess(layout, 2, b, from) as u64;
+    let z = excess(layout, 3, b, from) as u64;
     (w + x) + (y + z) == 0
 }
 
@@ -93,35 +93,35 @@ fn is_whole(b: &[u8], width: usize, at: usize) -> bool
     is_marked(b, at, b"PN")
 }
 
-// Whether a PN of node n stands at a position, by one test of the length, then of the mark and the masks.
+// Whether a PN of a node stands at a position, by one test of the length, then of the mark and the masks.
 #[tactic(auto, using(crate::proofs::Body::good_not, crate::proofs::Body::good_bare, crate::proofs::Body::good_masks, crate::proofs::Body::good_looking))]
-fn is_good(table: &[u16], n: usize, b: &[u8], at: usize) -> bool
-    requires shape { Shape table.now n }
+fn is_good(layout: &Layout, b: &[u8], at: usize) -> bool
+    requires shape { Shape layout.now }
     requires at_in_bounds { at ≤ length b.now }
-    ensures { result ≡ is_good table.now b.now n at }
+    ensures { result ≡ is_good layout.now b.now at }
 {
-    if is_whole(b, table[NODE_SLOTS * n + 5] as usize, at) {
-        if table[NODE_SLOTS * n + 6] == 0 {
+    if is_whole(b, layout.rule_width as usize, at) {
+        if layout.masks == 0 {
             return true;
         }
-        return masks_good(table, n, b, at + 3);
+        return masks_good(layout, b, at + 3);
     }
     false
 }
 
-// The same, where the node that the PN names is not known to be n.
+// The same, where the node that the PN names is not known to be n, whose layout is given.
 #[tactic(auto, using(crate::proofs::Body::node_there, crate::proofs::Body::good_looking, crate::proofs::Body::next_other, crate::proofs::Body::next_not))]
-fn is_next(table: &[u16], n: usize, b: &[u8], at: usize) -> bool
-    requires shape { Shape table.now n }
+fn is_next(layout: &Layout, n: usize, b: &[u8], at: usize) -> bool
+    requires shape { Shape layout.now }
     requires at_in_bounds { at ≤ length b.now }
-    ensures { result ≡ is_next table.now b.now n at }
+    ensures { result ≡ is_next layout.now b.now n at }
 {
-    if is_whole(b, table[NODE_SLOTS * n + 5] as usize, at) {
+    if is_whole(b, layout.rule_width as usize, at) {
         if usize::from(b[at + 2]) == n {
-            if table[NODE_SLOTS * n + 6] == 0 {
+            if layout.masks == 0 {
                 return true;
             }
-            return masks_good(table, n, b, at + 3);
+            return masks_good(layout, b, at + 3);
         }
         return false;
     }
@@ -129,43 +129,45 @@ fn is_next(table: &[u16], n: usize, b: &[u8], at: usize) -> bool
 }
 
 // A PN of node n whose ranks begin at an offset of the file, noted in the node's row, if its policy is kept.
-#[tactic(auto, using(crate::proofs::Rules::if_slot, crate::proofs::Rules::if_not))]
-fn note_if(keep: bool, n: usize, offset: usize, rows: &mut [u16])
+#[tactic(auto, using(crate::proofs::Rules::if_not))]
+fn note_if(keep: bool, n: usize, offset: usize, rows: &mut [Row])
     requires { Room rows.old n }
     ensures { rows.new ≡ note_if keep n offset rows.old }
 {
     if keep {
-        let m = rows[ROW_SLOTS * n];
-        rows[ROW_SLOTS * n + 1 + (m as usize)] = (offset % 65536) as u16;
-        rows[ROW_SLOTS * n] = m + 1;
+        rows[n].note(offset);
     }
 }
 
 // The PN of the nodes from 0 on that stand in a row: a loop of its own, in which the node is known before the PN is read, so
-// that one PN need not wait for the one before it.
-#[tactic(auto, using(crate::proofs::Rules::row_all, crate::proofs::Rules::row_room, crate::proofs::Rules::row_shape, crate::proofs::Rules::row_end))]
+// that one PN need not wait for the one before it. It walks over what is left of the policy, which the next PN begins.
+#[tactic(auto, using(crate::proofs::Rules::row_all, crate::proofs::Rules::row_room, crate::proofs::Rules::row_shape, crate::proofs::Rules::row_layout, crate::proofs::Rules::row_part, crate::proofs::Rules::row_end))]
 fn take_row(
-    table: &[u16],
+    layouts: &[Layout],
     count: usize,
     b: &[u8],
     head: usize,
     from: usize,
     keep: bool,
-    rows: &mut [u16],
+    rows: &mut [Row],
 ) -> Progress
-    requires shapes { Shapes table.now count }
+    requires shapes { Shapes layouts.now count }
     requires b_bound { head + length b.now < 2 ^ 64 }
     requires from_in_bounds { from ≤ length b.now }
     requires fact { Open count 0 rows.old }
-    ensures { Row table.now b.now keep head from rows.old count result.low result.at rows.new }
+    ensures { Taken layouts.now b.now keep head from rows.old count result.low result.at rows.new }
 {
+    let mut rest = &b[from..];
     let mut at = from;
     for low in 0..count {
-        if !is_next(table, low, b, at) {
+        let layout = &layouts[low];
+        if !is_next(layout, low, rest, 0) {
             return Progress { low, at };
         }
+        let width = usize::from(layout.rule_width);
         note_if(keep, low, head + at + 3, rows);
-        at += table[NODE_SLOTS * low + 5] as usize;
+        rest = &rest[width..];
+        at += width;
     }
     Progress { low: count, at }
 }
@@ -192,7 +194,7 @@ fn read_rule(
 }
 
 // The same, at once where it is plainly good.
-#[tactic(auto, using(crate::proofs::Rules::good_end))]
+#[tactic(auto, using(crate::proofs::Rules::take_inside, crate::proofs::Rules::good_end))]
 fn take_rule(
     schema: &Schema,
     count: usize,
@@ -206,8 +208,8 @@ fn take_rule(
     let at = from.at;
     if 3 <= b.len() - at {
         let node = usize::from(b[at + 2]);
-        if from.low <= node && node < count && is_good(schema.table, node, b, at) {
-            let next = at + (schema.table[NODE_SLOTS * node + 5] as usize);
+        if from.low <= node && node < count && is_good(&schema.layouts[node], b, at) {
+            let next = at + (schema.layouts[node].rule_width as usize);
             return Ok((node, next));
         }
     }
@@ -224,7 +226,7 @@ fn take_rest(
     n: usize,
     from: Progress,
     keep: bool,
-    rows: &mut [u16],
+    rows: &mut [Row],
 ) -> Result<usize, Breach>
     requires counted { count ≡ length (schema_of schema.now.bytes.now) }
     requires b_bound { head + length b.now < 2 ^ 64 }
@@ -260,7 +262,7 @@ fn read_rules(
     n: usize,
     from: usize,
     keep: bool,
-    rows: &mut [u16],
+    rows: &mut [Row],
 ) -> Result<usize, Breach>
     requires b_bound { head + length b.now < 2 ^ 64 }
     requires from_in_bounds { from ≤ length b.now }
@@ -268,7 +270,7 @@ fn read_rules(
     ensures { outcome result rows.new ≡ left_of (schema_of schema.now.bytes.now) b.now keep head n 0 from rows.old }
 {
     let count = schema.node_count();
-    let row = take_row(schema.table, row_end(n, count), b, head, from, keep, rows);
+    let row = take_row(schema.layouts, row_end(n, count), b, head, from, keep, rows);
     take_rest(schema, count, b, head, n - row.low, row, keep, rows)
 }
 
@@ -287,7 +289,7 @@ fn read_policy(
     head: usize,
     a: u16,
     b: u16,
-    rows: &mut [u16],
+    rows: &mut [Row],
 ) -> Result<usize, Breach>
     requires head_in_bounds { head ≤ length p.now }
     requires fact { Open (length (schema_of schema.now.bytes.now)) 0 rows.old }
@@ -308,7 +310,7 @@ fn turn_at(
     j: usize,
     a: u16,
     b: u16,
-    rows: &mut [u16],
+    rows: &mut [Row],
 ) -> Result<Option<usize>, Breach>
     requires { Ready schema.now.bytes.now j rows.old }
     ensures { Turned (schema_of schema.now.bytes.now) p.now a b j at rows.old result rows.new }
@@ -340,7 +342,7 @@ pub fn read_policies(
     p: &[u8],
     a: u16,
     b: u16,
-    rows: &mut [u16],
+    rows: &mut [Row],
 ) -> Result<usize, Breach>
     requires { RowsRoom schema.now.bytes.now rows.old }
     ensures { YieldsPolicies schema.now.bytes.now p.now a b result rows.new }

@@ -16,7 +16,7 @@ use Rattle.schema.proofs.Access.{ranks_few, successors_few}
 use Rattle.policies.specs.Policies.{Rule, Policy, rank_of}
 use Rattle.policies.specs.Rows.{rule_at, offsets_in, noted, rules_for, RuleAt, RulesAt, BytesAt}
 use Rattle.policies.proofs.Rules.{rank-read, rank-none, ranks_bytes}
-use Rattle.policies.proofs.Row.{row_said}
+use Rattle.policies.proofs.Said.{row_said}
 use Rattle.policies.specs.declared.Policies.{Policies}
 use Rattle.model.specs.Satisfaction.{every}
 use Rattle.model.specs.Order.{better_by}

@@ -55,18 +55,17 @@ fn ban_eight(p: &[u8], offsets: &[u16], bans: &mut [u8; MOST_SUCCESSORS]) -> boo
     requires bans_len { length bans.old ≡ 8 }
     ensures { BansEight (allowed_at p.now offsets.now) bans.new result }
 {
-    let mut most = [0u8; MOST_SUCCESSORS];
+    *bans = [0u8; MOST_SUCCESSORS];
     for at in offsets {
         match p[usize::from(*at)..].first_chunk() {
             Some(ranks) => {
-                most = greatest(&most, ranks);
+                *bans = greatest(bans, ranks);
             }
             None => {
                 return false;
             }
         }
     }
-    *bans = most;
     true
 }
 

@@ -5,19 +5,19 @@ ghost use Rattle.std.specs.Prelude.{◌≡◌, ◌≤◌, ltb};
 ghost use Rattle.fields.specs.Answers.{answer_of};
 ghost use Rattle.fields.specs.Outcomes.{Did};
 ghost use Rattle.schema.specs.Schema.{schema_of};
-ghost use Rattle.schema.specs.Table.{SetsIn, count_in};
+ghost use Rattle.schema.specs.Table.{RoomIn};
 ghost use Rattle.policies.specs.Rows.{noted};
-ghost use Rattle.instances.specs.Plan.{BitsRoom};
+ghost use Rattle.instances.specs.Plan.{SlotsRoom, Unchosen};
 ghost use Rattle.model.specs.Reconciling.{reconciled};
 ghost use Rattle.planning.specs.Plan.{Plans, file_length, EligibleRoom};
 ghost use Rattle.calls.specs.Calls.{given, reconciling};
 ghost use Rattle.reconciler.specs.Plan.{held_by};
 
 use fields::{Fault, File, Refusal};
-use instances::MOST_BYTES;
-use nodes::{FEW_NODES, FEW_TABLE_SLOTS, FEWEST_NODES, FEWEST_TABLE_SLOTS, Schema, TABLE_SLOTS};
-use policies::{Policies, ROW_SLOTS};
-use schema::{MOST_NODES, MOST_VARIABLES};
+use instances::{BLANK, MOST_BYTES, Slot};
+use nodes::{FEW_NODES, FEWEST_NODES, Schema};
+use policies::{NO_POLICIES, Policies};
+use schema::{MOST_NODES, NO_LAYOUT};
 
 // Whether so much room is less than the file of these nodes has bytes; room for the longest file is not.
 fn is_short(schema: &Schema, nodes: u64, room: usize) -> bool
@@ -33,13 +33,12 @@ fn is_short(schema: &Schema, nodes: u64, room: usize) -> bool
 fn write_plan(
     schema: &Schema,
     plan: Option<u64>,
-    choices: &[u8; MOST_NODES],
-    bits: &[u32],
+    slots: &[Slot],
     out: &mut [u8],
 ) -> Result<usize, Refusal>
-    requires bits_room { BitsRoom schema.now.bytes.now bits.now }
-    requires plans { Plans (schema_of schema.now.bytes.now) (held_by (schema_of schema.now.bytes.now) plan choices.now bits.now) choices.now bits.now plan }
-    ensures { Did (given (schema_of schema.now.bytes.now) out.old (held_by (schema_of schema.now.bytes.now) plan choices.now bits.now)) (answer_of (λ n. n) result) out.new }
+    requires slots_room { SlotsRoom schema.now.bytes.now slots.now }
+    requires plans { Plans (schema_of schema.now.bytes.now) (held_by (schema_of schema.now.bytes.now) plan slots.now) slots.now plan }
+    ensures { Did (given (schema_of schema.now.bytes.now) out.old (held_by (schema_of schema.now.bytes.now) plan slots.now)) (answer_of (λ n. n) result) out.new }
 {
     match plan {
         None => Err(Refusal::new(Fault::NoInstance)),
@@ -47,106 +46,61 @@ fn write_plan(
             if is_short(schema, nodes, out.len()) {
                 return Err(Refusal::new(Fault::Buffer));
             }
-            Ok(writer::write_planned(schema, nodes, choices, bits, out))
+            Ok(writer::write_planned(schema, nodes, slots, out))
         }
     }
 }
 
-// The instance for the policies in force, which the rows note: planned, then written.
+// The instance for the policies in force, which the rows note: planned, then written. They come by value, so that what they
+// are of need not be read again after each write into the slots.
 fn in_force(
-    policies: &Policies,
-    sets: &[u64],
+    policies: Policies,
     eligible: &mut [u64],
-    bits: &mut [u32],
+    slots: &mut [Slot],
     out: &mut [u8],
 ) -> Result<usize, Refusal>
-    requires sets_in { SetsIn policies.now.schema.bytes.now sets.now }
-    requires eligible_room { EligibleRoom policies.now.schema.bytes.now eligible.old }
-    requires bits_room { BitsRoom policies.now.schema.bytes.now bits.old }
-    ensures { Did (given (schema_of policies.now.schema.bytes.now) out.old (reconciled (schema_of policies.now.schema.bytes.now) (noted (schema_of policies.now.schema.bytes.now) policies.now.bytes.now policies.now.rows.now))) (answer_of (λ n. n) result) out.new }
+    requires eligible_room { EligibleRoom policies.schema.bytes.now eligible.old }
+    requires unchosen { Unchosen policies.schema.bytes.now slots.old }
+    ensures { Did (given (schema_of policies.entry.schema.bytes.now) out.old (reconciled (schema_of policies.entry.schema.bytes.now) (noted (schema_of policies.entry.schema.bytes.now) policies.entry.bytes.now policies.entry.rows.now))) (answer_of (λ n. n) result) out.new }
 {
-    let mut choices = [255u8; MOST_NODES];
-    let plan = planning::plan_for(policies, sets, eligible, &mut choices, bits);
-    write_plan(&policies.schema, plan, &choices, bits, out)
+    let plan = planning::plan_for(&policies, eligible, slots);
+    write_plan(&policies.schema, plan, slots, out)
 }
 
-// Schema, policies and pass, then the instance, with tables for the fewest nodes. Each size has a function of its own,
-// called once, so that the compiler makes it part of its caller.
-#[tactic(auto, using(instances::proofs::Slots::bits_4, inputs::proofs::Above::rows_4, crate::proofs::Reading::counted, crate::proofs::Reading::eligible_room, calls::proofs::Inputs::schema_bad_did), unfolding(calls::specs::Calls::reconciling))]
-fn with_fewest(schema: &[u8], p: &[u8], a: u16, b: u16, out: &mut [u8]) -> Result<usize, Refusal>
-    requires { count_in schema.now ≤ 4 }
+// Schema, policies and pass, then the instance, with tables for so many nodes. Each size is called once, so that the compiler
+// makes it part of its caller.
+#[tactic(auto, using(schema::proofs::Fill::room_in, inputs::proofs::Above::rows_in, crate::proofs::Reading::eligible_in, instances::proofs::Slots::unchosen_in, calls::proofs::Inputs::schema_bad_did), unfolding(calls::specs::Calls::reconciling))]
+fn with_room<'a, const N: usize>(
+    schema: &'a [u8],
+    p: &'a [u8],
+    a: u16,
+    b: u16,
+    out: &mut [u8],
+) -> Result<usize, Refusal>
+    requires { RoomIn schema.now N }
     ensures { Did (reconciling schema.now p.now a b out.old) (answer_of (λ n. n) result) out.new }
 {
-    let mut table = [0u16; FEWEST_TABLE_SLOTS];
-    let mut sets = [0u64; FEWEST_NODES];
-    schema::read_schema(schema, &mut table, &mut sets).map_err(|breach| breach.of(File::Schema))?;
+    let mut layouts = [NO_LAYOUT; N];
+    schema::read_schema(schema, &mut layouts).map_err(|breach| breach.of(File::Schema))?;
     let schema = Schema {
         bytes: schema,
-        table: &table,
+        layouts: &layouts,
     };
-    let mut rows = [0u16; ROW_SLOTS * FEWEST_NODES];
+    let mut rows = [NO_POLICIES; N];
     inputs::read_in_force(&schema, p, a, b, &mut rows)?;
     let policies = Policies {
         schema,
         bytes: p,
         rows: &rows,
     };
-    let mut eligible = [0u64; FEWEST_NODES];
-    let mut bits = [0u32; MOST_VARIABLES * FEWEST_NODES];
-    in_force(&policies, &sets, &mut eligible, &mut bits, out)
-}
-
-// The same with tables for few nodes.
-#[tactic(auto, using(schema::proofs::Fill::room_16, instances::proofs::Slots::bits_16, inputs::proofs::Above::rows_16, crate::proofs::Reading::counted, crate::proofs::Reading::eligible_room, calls::proofs::Inputs::schema_bad_did), unfolding(calls::specs::Calls::reconciling))]
-fn with_few(schema: &[u8], p: &[u8], a: u16, b: u16, out: &mut [u8]) -> Result<usize, Refusal>
-    requires { count_in schema.now ≤ 16 }
-    ensures { Did (reconciling schema.now p.now a b out.old) (answer_of (λ n. n) result) out.new }
-{
-    let mut table = [0u16; FEW_TABLE_SLOTS];
-    let mut sets = [0u64; FEW_NODES];
-    schema::read_schema(schema, &mut table, &mut sets).map_err(|breach| breach.of(File::Schema))?;
-    let schema = Schema {
-        bytes: schema,
-        table: &table,
-    };
-    let mut rows = [0u16; ROW_SLOTS * FEW_NODES];
-    inputs::read_in_force(&schema, p, a, b, &mut rows)?;
-    let policies = Policies {
-        schema,
-        bytes: p,
-        rows: &rows,
-    };
-    let mut eligible = [0u64; FEW_NODES];
-    let mut bits = [0u32; MOST_VARIABLES * FEW_NODES];
-    in_force(&policies, &sets, &mut eligible, &mut bits, out)
-}
-
-// And for any schema.
-#[tactic(auto, using(schema::proofs::Fill::room_64, instances::proofs::Slots::bits_64, inputs::proofs::Above::rows_64, crate::proofs::Reading::eligible_64, calls::proofs::Inputs::schema_bad_did), unfolding(calls::specs::Calls::reconciling))]
-fn with_most(schema: &[u8], p: &[u8], a: u16, b: u16, out: &mut [u8]) -> Result<usize, Refusal>
-    ensures { Did (reconciling schema.now p.now a b out.old) (answer_of (λ n. n) result) out.new }
-{
-    let mut table = [0u16; TABLE_SLOTS];
-    let mut sets = [0u64; MOST_NODES];
-    schema::read_schema(schema, &mut table, &mut sets).map_err(|breach| breach.of(File::Schema))?;
-    let schema = Schema {
-        bytes: schema,
-        table: &table,
-    };
-    let mut rows = [0u16; ROW_SLOTS * MOST_NODES];
-    inputs::read_in_force(&schema, p, a, b, &mut rows)?;
-    let policies = Policies {
-        schema,
-        bytes: p,
-        rows: &rows,
-    };
-    let mut eligible = [0u64; MOST_NODES];
-    let mut bits = [0u32; MOST_VARIABLES * MOST_NODES];
-    in_force(&policies, &sets, &mut eligible, &mut bits, out)
+    let mut eligible = [0u64; N];
+    let mut slots = [BLANK; N];
+    in_force(policies, &mut eligible, &mut slots, out)
 }
 
 // The instance for schema, policies and pass into the buffer, or a refusal; few nodes have short tables, which are sooner
 // cleared.
+#[tactic(auto, using(schema::proofs::Fill::room_few, schema::proofs::Fill::room_most))]
 pub fn reconcile(
     schema: &[u8],
     policies: &[u8],
@@ -158,10 +112,10 @@ pub fn reconcile(
 {
     let count = schema::count_in(schema);
     if count <= FEWEST_NODES {
-        return with_fewest(schema, policies, a, b, out);
+        return with_room::<FEWEST_NODES>(schema, policies, a, b, out);
     }
     if count <= FEW_NODES {
-        return with_few(schema, policies, a, b, out);
+        return with_room::<FEW_NODES>(schema, policies, a, b, out);
     }
-    with_most(schema, policies, a, b, out)
+    with_room::<MOST_NODES>(schema, policies, a, b, out)
 }

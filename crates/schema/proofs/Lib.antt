@@ -1,6 +1,8 @@
 pub mod Sound
+pub mod Made
 pub mod Reader
 pub mod Node
+pub mod Laying
 pub mod Accepted
 pub mod Table
 pub mod Access

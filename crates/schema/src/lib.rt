@@ -1,12 +1,12 @@
-// The reader of schema files: it fills, as it reads, a table of what the crates above ask of each node, and the sets of successors.
-#![tactic(auto, unfolding(fields::specs::Reading::part, fields::specs::Reading::field, fields::specs::Shorts::short, crate::specs::Schema::listed, crate::specs::Schema::number, crate::specs::Schema::variable, crate::specs::Layout::span, crate::specs::Table::mask_count, crate::specs::Table::fill_variable))]
+// The reader of schema files: as it reads, it lays out what the crates above ask of each node.
+#![tactic(auto, unfolding(fields::specs::Reading::part, fields::specs::Reading::field, crate::specs::Schema::listed, crate::specs::Schema::number, crate::specs::Schema::variable))]
 
-ghost use Rattle.std.specs.Prelude.{◌≡◌, cond, ◌+◌, ◌-◌, ◌≤◌, eqb};
+ghost use Rattle.std.specs.Prelude.{◌≡◌, cond, ◌+◌, ◌<◌, ◌≤◌, eqb};
 ghost use Rattle.fields.specs.Answers.{as_got};
 ghost use Rattle.fields.specs.Runs.{outcome, run_of};
 ghost use Rattle.schema.specs.Schema.{most_nodes, number, listed, variable, variables, variables_of, successors, links, node, nodes, body, schema};
 ghost use Rattle.schema.specs.Layout.{span};
-ghost use Rattle.schema.specs.Table.{mask_count, fill_variable, fill_variables, fill_body, tables, fill_one, fill_all, in_set, count_in, AtMost, Room, RoomFor, VariableRoom, YieldsSchema};
+ghost use Rattle.schema.specs.Table.{fill_nodes, put_variable, put_variables, put_node, made, linked, count_in, AtMost, Room, RoomFor, YieldsSchema};
 
 use fields::{Breach, Fault};
 use reading::{read, read_mark};
@@ -25,14 +25,41 @@ pub const MOST_SUCCESSORS: usize = SUCCESSORS as usize;
 
 pub const MOST_VARIABLES: usize = VARIABLES as usize;
 
-// The slots of a node in the table: where its record and its variables begin, the bytes of its PN, how many masks that has, its
-// ranks and, sixteenfold, its variables, then for each variable the skip of its mask and the bits that the mask has to spare.
-pub const NODE_SLOTS: usize = 16;
+// Where the parts of a node stand, in its record and in a PN of it, and its successors as a set: what the crates above ask of it.
+#[derive(Clone, Copy)]
+pub struct Layout {
+    // Where its record begins, and each of its variables.
+    pub start: u16,
+    pub variables: [u16; MOST_VARIABLES],
+    // The bytes of its PN, and how many masks that has.
+    pub rule_width: u16,
+    pub masks: u8,
+    // How many ranks it has in a PN, and how many variables.
+    pub ranks: u8,
+    pub variable_count: u8,
+    // For a listed variable: how far its mask stands from the first rank, and how many of its bits no value has; 0 for a number.
+    pub skips: [u8; MOST_VARIABLES],
+    pub spares: [u8; MOST_VARIABLES],
+    pub successors: u64,
+}
+
+// The layout of no node.
+pub const NO_LAYOUT: Layout = Layout {
+    start: 0,
+    variables: [0; MOST_VARIABLES],
+    rule_width: 0,
+    masks: 0,
+    ranks: 0,
+    variable_count: 0,
+    skips: [0; MOST_VARIABLES],
+    spares: [0; MOST_VARIABLES],
+    successors: 0,
+};
 
 // The bytes of a condition.
-const RANGE_WIDTH: usize = 8;
+const RANGE_WIDTH: u8 = 8;
 
-const MASK_WIDTH: usize = 4;
+const MASK_WIDTH: u8 = 4;
 
 // A variable of a node.
 #[derive(Clone, Copy)]
@@ -45,7 +72,7 @@ pub enum Variable {
 #[derive(Clone, Copy)]
 struct Successors {
     set: u64,
-    count: usize,
+    count: u8,
 }
 
 fn read_listed(s: &[u8], at: usize) -> Result<(Variable, usize), Breach>
@@ -80,99 +107,71 @@ fn read_variable(s: &[u8], at: usize) -> Result<(Variable, usize), Breach>
     }
 }
 
-// How many bits a mask has above the values of its variable.
-fn spare_bits(size: u8) -> u16
-    ensures { result ≡ 32 - size }
+// Variable j of a layout, which begins at an offset and whose condition stands so far from the first rank; the skip after it.
+#[tactic(auto, unfolding(fields::specs::Shorts::short, crate::specs::Layout::span, crate::specs::Layout::spare_of, crate::specs::Table::mask_count))]
+fn put_variable(j: usize, at: usize, skip: u8, v: Variable, layout: &mut Layout) -> u8
+    requires place { j < 4 }
+    requires light { skip ≤ 40 }
+    requires few { layout.old.masks ≤ 4 }
+    ensures written { layout.new ≡ put_variable j at skip v layout.old }
+    ensures after { result ≡ skip + span v }
 {
-    32u16.saturating_sub(u16::from(size))
-}
-
-// Node own's variable k, which begins at an offset; its condition stands so far after the first rank.
-fn store_variable(own: usize, k: usize, at: usize, skip: usize, v: Variable, table: &mut [u16])
-    requires variable_room { VariableRoom own (k + 1) table.old }
-    requires skip_bound { skip ≤ 40 }
-    ensures { table.new ≡ fill_variable own k at skip v table.old }
-{
-    table[NODE_SLOTS * own + 1 + k] = (at % 65536) as u16;
+    layout.variables[j] = (at % 65536) as u16;
     match v {
-        Variable::Number { .. } => {}
+        Variable::Number { .. } => {
+            layout.skips[j] = 0;
+            layout.spares[j] = 0;
+            skip + RANGE_WIDTH
+        }
         Variable::Listed { size } => {
-            table[NODE_SLOTS * own + 8 + k] = skip as u16;
-            table[NODE_SLOTS * own + 12 + k] = spare_bits(size);
+            layout.skips[j] = skip;
+            layout.spares[j] = 32u8.saturating_sub(size);
+            layout.masks += 1;
+            skip + MASK_WIDTH
         }
     }
 }
 
-// The bytes of a condition.
-fn span(v: Variable) -> usize
-    ensures value { result ≡ span v }
-    ensures most { result ≤ 8 }
-{
-    match v {
-        Variable::Number { .. } => RANGE_WIDTH,
-        Variable::Listed { .. } => MASK_WIDTH,
-    }
-}
-
-// How many masks a condition is.
-fn mask_count(v: Variable) -> usize
-    ensures value { result ≡ mask_count v }
-    ensures most { result ≤ 1 }
-{
-    match v {
-        Variable::Number { .. } => 0,
-        Variable::Listed { .. } => 1,
-    }
-}
-
-// k variables of node own, whose PN has so many ranks.
-#[tactic(auto, using(crate::proofs::Fill::variables_init, crate::proofs::Fill::variables_room, crate::proofs::Fill::variables_light, crate::proofs::Fill::variables_refused, crate::proofs::Fill::variables_step, crate::proofs::Fill::variables_inside, crate::proofs::Fill::variables_same))]
+// So many variables: their part of a layout, in a PN with so many ranks. It is written into a layout that is lent; after a refusal that holds anything.
+#[tactic(auto, using(crate::proofs::Laying::variables_init, crate::proofs::Laying::variables_light, crate::proofs::Laying::variables_few, crate::proofs::Laying::variables_refused))]
 fn read_variables(
     s: &[u8],
-    own: usize,
-    k: usize,
-    ranks: usize,
+    count: u8,
+    ranks: u8,
     from: usize,
-    table: &mut [u16],
+    layout: &mut Layout,
 ) -> Result<usize, Breach>
-    requires variable_room { VariableRoom own k table.old }
+    requires few { count ≤ 4 }
     requires ranks_bound { ranks ≤ 8 }
-    ensures { outcome result table.new ≡ run_of (fill_variables own 0 from ranks 0) (variables s.now k from) table.old }
+    ensures { outcome result layout.new ≡ run_of (put_variables ranks from) (variables s.now count from) layout.old }
 {
+    layout.variables = [0; MOST_VARIABLES];
+    layout.masks = 0;
+    layout.skips = [0; MOST_VARIABLES];
+    layout.spares = [0; MOST_VARIABLES];
+    layout.ranks = ranks;
+    layout.variable_count = count;
     let mut at = from;
     let mut skip = ranks;
-    let mut masks = 0;
-    for j in 0..k {
+    for j in 0..usize::from(count) {
         let (v, next) = read_variable(s, at)?;
-        store_variable(own, j, at, skip, v, table);
-        skip += span(v);
-        masks += mask_count(v);
+        skip = put_variable(j, at, skip, v, layout);
         at = next;
     }
-    table[NODE_SLOTS * own + 5] = (3 + skip) as u16;
-    table[NODE_SLOTS * own + 6] = masks as u16;
+    layout.rule_width = u16::from(3 + skip);
     Ok(at)
 }
 
-#[tactic(auto, using(crate::proofs::Fill::variables_of_bad, crate::proofs::Fill::variables_of_ok), unfolding(fields::specs::Reading::part, fields::specs::Reading::field, crate::specs::Schema::variables_of))]
-fn read_variables_of(
-    s: &[u8],
-    own: usize,
-    ranks: usize,
-    at: usize,
-    table: &mut [u16],
-) -> Result<usize, Breach>
-    requires variable_room { VariableRoom own 4 table.old }
+#[tactic(auto, using(crate::proofs::Laying::variables_of_ok), unfolding(fields::specs::Reading::part, fields::specs::Reading::field, crate::specs::Schema::variables_of))]
+fn read_variables_of(s: &[u8], ranks: u8, at: usize, layout: &mut Layout) -> Result<usize, Breach>
     requires ranks_bound { ranks ≤ 8 }
-    ensures { outcome result table.new ≡ run_of (fill_body own (at + 1) ranks) (variables_of s.now at) table.old }
+    ensures { outcome result layout.new ≡ run_of (put_variables ranks (at + 1)) (variables_of s.now at) layout.old }
 {
     let (count, next) = read::<u8>(s, at)?;
     if VARIABLES < count {
         return Err(Breach::new(Fault::Variable, at));
     }
-    let count = count as usize;
-    table[NODE_SLOTS * own + 7] = (ranks + 16 * count) as u16;
-    read_variables(s, own, count, ranks, next, table)
+    read_variables(s, count, ranks, next, layout)
 }
 
 #[tactic(auto, using(crate::proofs::Reader::successors_init, crate::proofs::Reader::successors_cut, crate::proofs::Reader::successors_low, crate::proofs::Reader::successors_high, crate::proofs::Reader::successors_exit), unfolding(fields::specs::Reading::part, fields::specs::Reading::field))]
@@ -184,7 +183,7 @@ fn read_successors(
     from: usize,
 ) -> Result<(Successors, usize), Breach>
     requires { count ≤ most_nodes }
-    ensures { as_got result ≡ in_set (successors s.now count own c from) }
+    ensures { as_got result ≡ made linked (successors s.now count own c from) }
 {
     let mut above = own;
     let mut set = 0;
@@ -198,8 +197,7 @@ fn read_successors(
         above = x;
         at = next;
     }
-    let count = c as usize;
-    Ok((Successors { set, count }, at))
+    Ok((Successors { set, count: c }, at))
 }
 
 #[tactic(auto, unfolding(fields::specs::Reading::part, fields::specs::Reading::field, crate::specs::Schema::links))]
@@ -211,7 +209,7 @@ fn read_links(
     at: usize,
 ) -> Result<(Successors, usize), Breach>
     requires { count ≤ most_nodes }
-    ensures { as_got result ≡ in_set (links s.now count own kind at) }
+    ensures { as_got result ≡ made linked (links s.now count own kind at) }
 {
     let (c, next) = read::<u8>(s, at)?;
     if SUCCESSORS < c || c == 0 && kind != 1 {
@@ -222,25 +220,23 @@ fn read_links(
 
 // How many ranks a PN of a node has.
 #[tactic(auto, using(crate::proofs::Reader::ranks_one, crate::proofs::Reader::ranks_none))]
-fn rank_count(kind: u8, count: usize) -> usize
+fn rank_count(kind: u8, count: u8) -> u8
     requires { count ≤ 8 }
     ensures { AtMost 8 (cond (eqb kind 1) count 0) result }
 {
     if kind == 1 { count } else { 0 }
 }
 
-#[tactic(auto, using(crate::proofs::Fill::node_bad, crate::proofs::Fill::links_few, crate::proofs::Fill::node_room, crate::proofs::Fill::node_same), unfolding(fields::specs::Reading::part, fields::specs::Reading::field, crate::specs::Schema::node))]
+#[tactic(auto, using(crate::proofs::Laying::links_few), unfolding(fields::specs::Reading::part, fields::specs::Reading::field, crate::specs::Schema::node))]
 fn read_node(
     s: &[u8],
     count: u8,
     own: u8,
     from: usize,
-    table: &mut [u16],
-    sets: &mut [u64],
+    layout: &mut Layout,
 ) -> Result<usize, Breach>
-    requires count_le_most_nodes { count ≤ most_nodes }
-    requires room_for { RoomFor (own + 1) table.old sets.old }
-    ensures { outcome result (tables table.new sets.new) ≡ run_of (fill_one own from) (node s.now count own from) (tables table.old sets.old) }
+    requires { count ≤ most_nodes }
+    ensures { outcome result layout.new ≡ run_of (put_node from) (node s.now count own from) layout.old }
 {
     let at = read_mark(s, from, b"SN")?;
     let (kind, next) = read::<u8>(s, at)?;
@@ -248,42 +244,29 @@ fn read_node(
         return Err(Breach::new(Fault::Links, at));
     }
     let (successors, at) = read_links(s, count, own, kind, next)?;
-    let n = own as usize;
-    table[NODE_SLOTS * n] = (from % 65536) as u16;
-    sets[n] = successors.set;
-    read_variables_of(s, n, rank_count(kind, successors.count), at, table)
+    layout.start = (from % 65536) as u16;
+    layout.successors = successors.set;
+    read_variables_of(s, rank_count(kind, successors.count), at, layout)
 }
 
 #[tactic(auto, using(crate::proofs::Fill::nodes_init, crate::proofs::Fill::nodes_room, crate::proofs::Fill::nodes_refused, crate::proofs::Fill::nodes_step, crate::proofs::Fill::nodes_exit))]
-fn read_nodes(
-    s: &[u8],
-    count: u8,
-    from: usize,
-    table: &mut [u16],
-    sets: &mut [u64],
-) -> Result<usize, Breach>
-    requires { RoomFor count table.old sets.old }
-    ensures { outcome result (tables table.new sets.new) ≡ run_of (fill_all 0 from) (nodes s.now count count 0 from) (tables table.old sets.old) }
+fn read_nodes(s: &[u8], count: u8, from: usize, layouts: &mut [Layout]) -> Result<usize, Breach>
+    requires { RoomFor count layouts.old }
+    ensures { outcome result layouts.new ≡ run_of (fill_nodes 0 from) (nodes s.now count count 0 from) layouts.old }
 {
     let mut at = from;
     for own in 0..count {
-        at = read_node(s, count, own, at, table, sets)?;
+        at = read_node(s, count, own, at, &mut layouts[own as usize])?;
     }
     Ok(at)
 }
 
 #[tactic(auto, using(crate::proofs::Fill::body_bad, crate::proofs::Fill::body_rest, crate::proofs::Fill::body_ok))]
-fn read_body(
-    s: &[u8],
-    count: u8,
-    from: usize,
-    table: &mut [u16],
-    sets: &mut [u64],
-) -> Result<usize, Breach>
-    requires { RoomFor count table.old sets.old }
-    ensures { outcome result (tables table.new sets.new) ≡ run_of (fill_all 0 from) (body s.now count from) (tables table.old sets.old) }
+fn read_body(s: &[u8], count: u8, from: usize, layouts: &mut [Layout]) -> Result<usize, Breach>
+    requires { RoomFor count layouts.old }
+    ensures { outcome result layouts.new ≡ run_of (fill_nodes 0 from) (body s.now count from) layouts.old }
 {
-    let at = read_nodes(s, count, from, table, sets)?;
+    let at = read_nodes(s, count, from, layouts)?;
     if at < s.len() {
         return Err(Breach::new(Fault::Remainder, at));
     }
@@ -297,16 +280,16 @@ pub fn count_in(s: &[u8]) -> usize
     s.get(2).copied().map_or(0, usize::from)
 }
 
-// The whole file, into tables that are lent; if it is refused they hold anything.
+// The whole file, into layouts that are lent; if it is refused they hold anything.
 #[tactic(auto, using(crate::proofs::Fill::schema_bad, crate::proofs::Fill::schema_room, crate::proofs::Fill::schema_ok), unfolding(fields::specs::Reading::part, fields::specs::Reading::field, crate::specs::Schema::schema))]
-pub fn read_schema(s: &[u8], table: &mut [u16], sets: &mut [u64]) -> Result<usize, Breach>
-    requires { Room s.now table.old sets.old }
-    ensures { YieldsSchema s.now result table.new sets.new }
+pub fn read_schema(s: &[u8], layouts: &mut [Layout]) -> Result<usize, Breach>
+    requires { Room s.now layouts.old }
+    ensures { YieldsSchema s.now result layouts.new }
 {
     let at = read_mark(s, 0, b"SH")?;
     let (count, next) = read::<u8>(s, at)?;
     if count == 0 || NODES < count {
         return Err(Breach::new(Fault::NodeCount, at));
     }
-    read_body(s, count, next, table, sets)
+    read_body(s, count, next, layouts)
 }

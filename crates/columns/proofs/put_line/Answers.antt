@@ -10,9 +10,6 @@ use Rattle.columns.proofs.put_line.Goals as goal
 pub put_right-requires-clause-x_len_bound : goal.put_right-requires-clause-x_len_bound
 put_right-requires-clause-x_len_bound c = search (node-short, node_small)
 
-pub bounds-choices-n : goal.bounds-choices-n
-bounds-choices-n c = search node_small
-
 pub shape_of-out : goal.shape_of-out
 shape_of-out c = simp length-set (search rules)
 

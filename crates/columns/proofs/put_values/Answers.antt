@@ -10,4 +10,4 @@ pub loop-k-preserved : goal.loop-k-preserved
 loop-k-preserved c = search values_step
 
 pub returns : goal.returns
-returns c = values_exit _ _ _ _ _ _ _ _ c.loop-k.invariant c.variable_count-k-end.ensures c.requires.from_in_bounds c.loop-k-test.false (c.fill.ensures.after λ y e. e)
+returns c = values_exit _ _ _ _ _ _ _ c.loop-k.invariant c.variable_count-k-end.ensures c.requires.from_in_bounds c.loop-k-test.false (c.fill.ensures.after λ y e. e)

@@ -1,4 +1,4 @@
--- The variables before this one have their least values in their slots.
+-- The variables before this one have their least values in their places.
 -- Rests on the laws of a turn, in Least.
 use Rattle.conditions.proofs.Least.{finding_init, finding_exit, finding_fits, finding_none, finding_some, size_small, condition_bytes}
 use Rattle.conditions.proofs.least_each.Goals as goal

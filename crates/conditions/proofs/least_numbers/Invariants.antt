@@ -1,7 +1,7 @@
--- The bits of the lower bounds before this one stand in their slots.
+-- The bits of the lower bounds before this one stand in their places.
 -- Rests on nothing.
 use Rattle.conditions.proofs.FourLeast.{Stored}
 use Rattle.conditions.proofs.least_numbers.Given as goal
 
 abbrev pub invariant-loop-k : goal.invariant-loop-k
-invariant-loop-k l = Stored l.conditions l.n l.k l.initial.bits l.bits
+invariant-loop-k l = Stored l.conditions l.k l.bits

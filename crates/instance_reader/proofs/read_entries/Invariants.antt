@@ -9,4 +9,4 @@ use Rattle.instance_reader.proofs.Reader.{Going}
 use Rattle.instance_reader.proofs.read_entries.Given as goal
 
 abbrev pub invariant-loop-turn : goal.invariant-loop-turn
-invariant-loop-turn l = Going l.schema.bytes.now l.s l.initial.bits (run_of (fill_entries (schema_of l.schema.bytes.now)) (entries l.s (schema_of l.schema.bytes.now) l.m [] l.from) (emptied l.initial.choices l.initial.bits)) l.m l._turn l.due l.nodes l.at l.choices l.bits
+invariant-loop-turn l = Going l.schema.bytes.now l.s l.initial.slots (run_of (fill_entries (schema_of l.schema.bytes.now)) (entries l.s (schema_of l.schema.bytes.now) l.m [] l.from) (emptied l.initial.slots)) l.m l._turn l.due l.nodes l.at l.slots

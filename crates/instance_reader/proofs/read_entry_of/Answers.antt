@@ -1,15 +1,11 @@
--- A node is below 64; a wrong choice refuses its entry, else its values end it.
--- Rests on node_small, rest_choice and rest_ok.
+-- A wrong choice refuses its entry, else its values end it.
+-- Rests on rest_choice and rest_ok.
 use Rattle.std.proofs.Common.{rules}
-use Rattle.schema.proofs.Access.{node_small}
 use Rattle.instance_reader.proofs.Reader.{rest_choice, rest_ok}
 use Rattle.instance_reader.proofs.read_entry_of.Goals as goal
 
-pub bounds-choices-n : goal.bounds-choices-n
-bounds-choices-n c = search node_small
-
 pub returns-then-not-right_choice : goal.returns-then-not-right_choice
-returns-then-not-right_choice c = rw c.new.ensures (rest_choice _ _ _ _ _ _ _ c.in_ok-choice.ensures c.right_choice.ensures c.if-not-right_choice.true)
+returns-then-not-right_choice c = rw c.new.ensures (rest_choice _ _ _ _ _ _ c.in_ok-choice.ensures c.right_choice.ensures c.if-not-right_choice.true)
 
 pub returns : goal.returns
-returns c = rest_ok _ _ _ _ _ _ _ c.in_ok-choice.ensures c.right_choice.ensures (search rules) c.in_ok-next.ensures c.turned_bit.ensures c.from.ensures c.reach-due.ensures
+returns c = rest_ok _ _ _ _ _ _ c.in_ok-choice.ensures c.right_choice.ensures (search rules) c.in_ok-next.ensures c.turned_bit.ensures c.from.ensures c.reach-due.ensures (search rules)

@@ -1,7 +1,7 @@
 -- The nodes taken and the entries of those left make the whole; the lowest of them rises.
 -- Rests on Reaching.
 use Rattle.planning.proofs.Node.{node_chooses}
-use Rattle.planning.proofs.Reaching.{choosing_init, choosing_node, choosing_slot, choosing_choice, choice_below, choice_small, choosing_step, choosing_less, choosing_set, choosing_all, choosing_all_less, choosing_exit}
+use Rattle.planning.proofs.Reaching.{choosing_init, choosing_node, choosing_eligible, choosing_slot, choosing_choice, choice_below, choice_small, choosing_step, choosing_less, choosing_all, choosing_all_less, choosing_exit}
 use Rattle.planning.proofs.choose_nodes.Goals as goal
 
 pub loop-left-init : goal.loop-left-init
@@ -11,7 +11,10 @@ pub chooses-requires : goal.chooses-requires
 chooses-requires c = search choosing_node
 
 pub bounds-eligible-n : goal.bounds-eligible-n
-bounds-eligible-n c = search choosing_slot
+bounds-eligible-n c = search choosing_eligible
+
+pub bounds-slots-n : goal.bounds-slots-n
+bounds-slots-n c = search choosing_slot
 
 pub choose-x-requires-clause-node_in : goal.choose-x-requires-clause-node_in
 choose-x-requires-clause-node_in c = search choosing_node
@@ -22,8 +25,8 @@ choose-x-requires-clause-n_value c = search node_chooses
 pub choose-x-requires-clause-choice : goal.choose-x-requires-clause-choice
 choose-x-requires-clause-choice c = search choosing_choice
 
-pub overflow_cast-choices : goal.overflow_cast-choices
-overflow_cast-choices c = record { fits = search choice_small }
+pub overflow_cast-slots : goal.overflow_cast-slots
+overflow_cast-slots c = record { fits = search choice_small }
 
 pub insert-left-requires : goal.insert-left-requires
 insert-left-requires c = search choice_below
@@ -34,8 +37,8 @@ loop-left-smaller-then-chooses c = search choosing_less
 pub loop-left-preserved-then-chooses : goal.loop-left-preserved-then-chooses
 loop-left-preserved-then-chooses c = search choosing_step
 
-pub bounds-sets-n : goal.bounds-sets-n
-bounds-sets-n c = search choosing_set
+pub successor_set-left-requires : goal.successor_set-left-requires
+successor_set-left-requires c = search choosing_node
 
 pub loop-left-smaller : goal.loop-left-smaller
 loop-left-smaller c = search choosing_all_less

@@ -8,7 +8,7 @@ use Rattle.planning.proofs.Reaching.{Choosing}
 use Rattle.planning.proofs.choose_nodes.Given as goal
 
 abbrev pub invariant-loop-left : goal.invariant-loop-left
-invariant-loop-left l = Choosing (schema_of l.policies.schema.bytes.now) (noted (schema_of l.policies.schema.bytes.now) l.policies.bytes.now l.policies.rows.now) l.choices l.left l.reached
+invariant-loop-left l = Choosing (schema_of l.policies.schema.bytes.now) (noted (schema_of l.policies.schema.bytes.now) l.policies.bytes.now l.policies.rows.now) l.initial.slots l.slots l.left l.reached
 
 abbrev pub decreases-loop-left : goal.decreases-loop-left
 decreases-loop-left l = 64 - count_trailing_zeros 64 l.left

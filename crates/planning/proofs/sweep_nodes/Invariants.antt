@@ -6,4 +6,4 @@ use Rattle.planning.specs.Sweep.{Swept}
 use Rattle.planning.proofs.sweep_nodes.Given as goal
 
 abbrev pub invariant-loop-n : goal.invariant-loop-n
-invariant-loop-n l = Swept l.policies.schema.bytes.now (noted (schema_of l.policies.schema.bytes.now) l.policies.bytes.now l.policies.rows.now) l.n l.feasible l.eligible l.bits
+invariant-loop-n l = Swept l.policies.schema.bytes.now (noted (schema_of l.policies.schema.bytes.now) l.policies.bytes.now l.policies.rows.now) l.n l.feasible l.eligible l.slots

@@ -1,4 +1,4 @@
--- The two stores are those of the definition.
+-- The row that is noted in is the node's.
 -- Rests on if_kept.
 use Rattle.policy_reader.proofs.Rules.{if_kept}
 use Rattle.policy_reader.proofs.note_if.Goals as goal

@@ -1,4 +1,4 @@
--- The PN read so far stand in a row.
+-- The PN read so far stand in a row, and are walked over.
 -- Rests on the laws of PN in a row.
 use Rattle.std.proofs.Common.{◌∙◌, sym, arith}
 use Rattle.policy_reader.proofs.Rules.{row_init, row_offset, row_step}
@@ -8,7 +8,8 @@ pub loop-low-init : goal.loop-low-init
 loop-low-init c = search row_init
 
 pub overflow_add-head-in-loop-low : goal.overflow_add-head-in-loop-low
-overflow_add-head-in-loop-low c = omega (arith, row_offset _ _ _ _ _ _ _ _ _ _ c.loop-low.invariant (omega arith) c.requires.shapes (sym c.is_next.ensures ∙ c.if-not-is_next.false))
+overflow_add-head-in-loop-low c = omega (arith, row_offset _ _ _ _ _ _ _ _ _ _ _ c.loop-low.invariant (omega arith) c.requires.shapes (sym c.is_next.ensures ∙ c.if-not-is_next.false))
 
 pub loop-low-preserved : goal.loop-low-preserved
-loop-low-preserved c = row_step _ _ _ _ _ _ _ _ _ _ c.loop-low.invariant (omega arith) c.requires.shapes (sym c.is_next.ensures ∙ c.if-not-is_next.false) c.note_if.ensures
+loop-low-preserved c =
+    row_step _ _ _ _ _ _ _ _ _ _ _ c.loop-low.invariant (omega arith) c.requires.shapes (sym c.is_next.ensures ∙ c.if-not-is_next.false) c.from-width.ensures c.note_if.ensures

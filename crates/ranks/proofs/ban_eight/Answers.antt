@@ -5,5 +5,5 @@ use Rattle.ranks.proofs.ban_eight.Goals as goal
 
 pub loop-at-preserved : goal.loop-at-preserved
 loop-at-preserved c =
-    greatest_more c.args.p.now c.args.offsets.now c.loop-at.at-index c.loop-at.most c.loop-at.invariant c.type_inv.p c.loop-at-test.true c.from.ensures
-    (c.in-Some.ensures).cases.same c.greatest-most.ensures
+    greatest_more c.args.p.now c.args.offsets.now c.loop-at.at-index c.loop-at.bans c.loop-at.invariant c.type_inv.p c.loop-at-test.true c.from.ensures
+    (c.in-Some.ensures).cases.same c.greatest.ensures

@@ -13,8 +13,8 @@ returns-then-is_short c = search (plan_short, rules)
 pub write_planned-requires-clause-nodes_value : goal.write_planned-requires-clause-nodes_value
 write_planned-requires-clause-nodes_value c = search (plan_nodes, rules)
 
-pub write_planned-requires-clause-bits_in_bounds : goal.write_planned-requires-clause-bits_in_bounds
-write_planned-requires-clause-bits_in_bounds c = search (plan_room, rules)
+pub write_planned-requires-clause-file_in_bounds : goal.write_planned-requires-clause-file_in_bounds
+write_planned-requires-clause-file_in_bounds c = search (plan_room, rules)
 
 pub returns-else-is_short : goal.returns-else-is_short
 returns-else-is_short c = search plan_written

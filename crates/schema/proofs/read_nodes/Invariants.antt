@@ -3,4 +3,4 @@ use Rattle.schema.proofs.Fill.{NodesLeft}
 use Rattle.schema.proofs.read_nodes.Given as goal
 
 abbrev pub invariant-loop-own : goal.invariant-loop-own
-invariant-loop-own l = NodesLeft l.s l.count l.from l.initial.table l.initial.sets l.table l.sets l.own l.at
+invariant-loop-own l = NodesLeft l.s l.count l.from l.initial.layouts l.layouts l.own l.at

@@ -9,15 +9,15 @@ use Rattle.schema.proofs.read_schema.Goals as goal
 
 pub returns-in_err-at : goal.returns-in_err-at
 unfolding schema part field
-returns-in_err-at c = let b = c.in_err-at.field-0.0 in schema_bad _ _ _ {n = number b.fault} {o = b.offset} (search rules) (search rules)
+returns-in_err-at c = let b = c.in_err-at.field-0.0 in schema_bad _ _ {n = number b.fault} {o = b.offset} (search rules) (search rules)
 
 pub returns-in_err-count : goal.returns-in_err-count
 unfolding schema part field
-returns-in_err-count c = let b = c.in_err-count.field-0.0 in schema_bad _ _ _ {n = number b.fault} {o = b.offset} (search rules) (search rules)
+returns-in_err-count c = let b = c.in_err-count.field-0.0 in schema_bad _ _ {n = number b.fault} {o = b.offset} (search rules) (search rules)
 
 pub returns-then-count-eq0 : goal.returns-then-count-eq0
 unfolding schema part field
-returns-then-count-eq0 c = let b = c.new.result in schema_bad _ _ _ {n = number b.fault} {o = b.offset} (search rules) (search rules)
+returns-then-count-eq0 c = let b = c.new.result in schema_bad _ _ {n = number b.fault} {o = b.offset} (search rules) (search rules)
 
 pub returns : goal.returns
-returns c = schema_ok _ _ _ c.requires c.in_ok-at.ensures c.in_ok-count.ensures _ _ _ (omega arith) (omega arith) c.read_body.ensures
+returns c = schema_ok _ _ c.requires c.in_ok-at.ensures c.in_ok-count.ensures _ _ (omega arith) (omega arith) c.read_body.ensures

@@ -5,4 +5,4 @@ use Rattle.writer.proofs.Writer.{PuttingValues}
 use Rattle.writer.proofs.put_values.Given as goal
 
 abbrev pub invariant-loop-k : goal.invariant-loop-k
-invariant-loop-k l = PuttingValues (node_at (schema_of l.schema.bytes.now) l.n) l.bits l.n l.k l.initial.out l.from l.out l.at
+invariant-loop-k l = PuttingValues (node_at (schema_of l.schema.bytes.now) l.n) l.bits l.k l.initial.out l.from l.out l.at

@@ -1,4 +1,4 @@
--- The table has ranks and variables in one number.
+-- The layout has their number.
 -- Rests on ranks_are.
 use Rattle.nodes.proofs.Nodes.{ranks_are}
 use Rattle.nodes.proofs.Schema.rank_count.Goals as goal

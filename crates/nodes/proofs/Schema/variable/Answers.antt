@@ -1,4 +1,4 @@
--- The table tells where the variable begins: its type stands there, and after it the bounds.
+-- The layout tells where the variable begins: its type stands there, and after it the bounds.
 -- Rests on number_is.
 use Rattle.nodes.proofs.Nodes.{number_is}
 use Rattle.nodes.proofs.Schema.variable.Goals as goal

@@ -1,4 +1,4 @@
--- The table has ranks and variables in one number.
+-- The layout has their number.
 -- Rests on variables_are.
 use Rattle.nodes.proofs.Nodes.{variables_are}
 use Rattle.nodes.proofs.Schema.variable_count.Goals as goal
