@@ -18,6 +18,6 @@ module _ (g : List Node) (ps : List Policy) (n x : ℕ) {c : Bool} (e : c ≡ ch
   unfolding choice_meets
   choice-free h = rw (sym e ∙ h)
 
-  pub choice-is : {k : ℕ} {r : Bool} → c ≡ true → AtMost 8 (column_of x (node_at g n).successors) k → r ≡ allowed_column ps n k → r ≡ choice_meets g ps (choosing n x)
+  pub choice-is : {y k : ℕ} {r : Bool} → c ≡ true → y ≡ x → AtMost 8 (column_of y (node_at g n).successors) k → r ≡ allowed_column ps n k → r ≡ choice_meets g ps (choosing n x)
   unfolding choice_meets
-  choice-is h m q = rw (sym e ∙ h) (q ∙ ap (allowed_column ps n) m.is ∙ allowed-column g ps n x)
+  choice-is h f m q = rw (sym e ∙ h) (q ∙ ap (allowed_column ps n) (rw f at m).is ∙ allowed-column g ps n x)

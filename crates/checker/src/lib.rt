@@ -14,7 +14,7 @@ ghost use Rattle.calls.specs.Calls.{checking_in_force, checking};
 ghost use Rattle.checker.specs.Checks.{forbidden_in, choosing};
 
 use fields::{Breach, Fault, File, Refusal};
-use instances::{BLANK, ENTRY_WIDTH, HEAD_WIDTH, Slot};
+use instances::{EMPTY, ENTRY_WIDTH, HEAD_WIDTH, Slot};
 use nodes::{FEW_NODES, Schema};
 use policies::{NO_POLICIES, Policies};
 use schema::{MOST_NODES, MOST_VARIABLES, NO_LAYOUT};
@@ -25,7 +25,7 @@ fn choice_allowed(policies: &Policies, n: usize, x: u8) -> bool
     ensures { result ≡ choice_meets (schema_of policies.now.schema.bytes.now) (noted (schema_of policies.now.schema.bytes.now) policies.now.bytes.now policies.now.rows.now) (choosing n x) }
 {
     if instances::chooses(&policies.schema, n) {
-        let k = order::column_of(&policies.schema, n, x);
+        let k = order::column_of(&policies.schema, n, usize::from(x));
         return ranks::is_allowed(policies, n, k);
     }
     true
@@ -129,7 +129,7 @@ fn with_room<const N: usize>(
         bytes: p,
         rows: &rows,
     };
-    let mut slots = [BLANK; N];
+    let mut slots = [EMPTY; N];
     in_force(&policies, s, &mut slots)
 }
 

@@ -16,10 +16,10 @@ use Rattle.model.specs.Order.{better}
 use Rattle.ranks.specs.Ranks.{rank_order}
 use Rattle.ranks.proofs.Comparing.{better_less, better_greater, better_equal}
 
-module _ (g : List Node) (qs : List Policy) (n x y : ℕ) {c d : ℕ} (a : AtMost 8 (column_of x (node_at g n).successors) c) (b : AtMost 8 (column_of y (node_at g n).successors) d)
+module _ (g : List Node) (qs : List Policy) (n x y : ℕ) {u v c d : ℕ} (f : u ≡ x) (k : v ≡ y) (a : AtMost 8 (column_of u (node_at g n).successors) c) (b : AtMost 8 (column_of v (node_at g n).successors) d)
     {r : Ordering} (e : r ≡ rank_order (rules_for n qs) c d) where
   compared : r ≡ rank_order (rules_for n qs) (column_of x (node_at g n).successors) (column_of y (node_at g n).successors)
-  compared = e ∙ ap₂ (rank_order (rules_for n qs)) a.is b.is
+  compared = e ∙ ap₂ (rank_order (rules_for n qs)) (rw f at a).is (rw k at b).is
 
   pub ranks_less : r ≡ Less → true ≡ better g qs n x y
   ranks_less h = sym (better_less g qs n x y compared h)

@@ -14,7 +14,7 @@ ghost use Rattle.calls.specs.Calls.{comparing_in_force, comparing};
 ghost use Rattle.comparison.specs.Comparison.{verdict_number, YieldsAsGood, YieldsVerdict};
 
 use fields::{File, Refusal};
-use instances::{BLANK, Slot};
+use instances::{EMPTY, Slot};
 use nodes::{FEW_NODES, Schema};
 use policies::{NO_POLICIES, Policies};
 use schema::{MOST_NODES, NO_LAYOUT};
@@ -35,8 +35,8 @@ fn is_better(policies: &Policies, n: usize, x: u8, y: u8) -> bool
     requires node_in { n < length (schema_of policies.now.schema.bytes.now) }
     ensures { result ≡ better (schema_of policies.now.schema.bytes.now) (noted (schema_of policies.now.schema.bytes.now) policies.now.bytes.now policies.now.rows.now) n x y }
 {
-    let c = order::column_of(&policies.schema, n, x);
-    let d = order::column_of(&policies.schema, n, y);
+    let c = order::column_of(&policies.schema, n, usize::from(x));
+    let d = order::column_of(&policies.schema, n, usize::from(y));
     match ranks::compare_ranks(policies, n, c, d) {
         Ordering::Less => true,
         Ordering::Greater => false,
@@ -141,7 +141,7 @@ fn in_force(
 }
 
 // Schema, policies and pass, then the instances, with tables and slots for so many nodes.
-#[tactic(auto, using(schema::proofs::Fill::room_in, inputs::proofs::Above::rows_in, instances::proofs::Slots::unchosen_in, calls::proofs::Inputs::schema_bad), unfolding(calls::specs::Calls::comparing))]
+#[tactic(auto, using(schema::proofs::Fill::room_in, inputs::proofs::Above::rows_in, instances::proofs::Slots::slots_in, instances::proofs::Clearing::cleared_unchosen, calls::proofs::Inputs::schema_bad), unfolding(calls::specs::Calls::comparing))]
 fn with_room<const N: usize>(
     schema: &[u8],
     p: &[u8],
@@ -166,8 +166,10 @@ fn with_room<const N: usize>(
         bytes: p,
         rows: &rows,
     };
-    let mut first = [BLANK; N];
-    let mut second = [BLANK; N];
+    let mut first = [EMPTY; N];
+    instances::clear_choices(&policies.schema, &mut first);
+    let mut second = [EMPTY; N];
+    instances::clear_choices(&policies.schema, &mut second);
     in_force(&policies, s, t, &mut first, &mut second)
 }
 

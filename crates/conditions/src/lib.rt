@@ -30,10 +30,10 @@ const FOURTH: usize = 3 * RANGE_WIDTH;
 
 // The combined conditions of one node: a range for a number, a mask for a listed variable, a place for each of four.
 #[derive(Clone, Copy)]
-struct Conditions {
-    lo: [i32; MOST_VARIABLES],
-    hi: [i32; MOST_VARIABLES],
-    mask: [u32; MOST_VARIABLES],
+pub struct Conditions {
+    pub lo: [i32; MOST_VARIABLES],
+    pub hi: [i32; MOST_VARIABLES],
+    pub mask: [u32; MOST_VARIABLES],
 }
 
 // The range x, narrowed by the condition that stands so far from the first rank of a PN, with which the slice begins.

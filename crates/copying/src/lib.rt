@@ -10,7 +10,7 @@ ghost use Rattle.instances.specs.Plan.{SlotsRoom};
 ghost use Rattle.calls.specs.Calls.{copying};
 
 use fields::{Fault, File, Refusal};
-use instances::{BLANK, Slot};
+use instances::{EMPTY, Slot};
 use nodes::{FEW_NODES, Schema};
 use schema::{MOST_NODES, NO_LAYOUT};
 
@@ -52,7 +52,7 @@ fn with_room<const N: usize>(schema: &[u8], s: &[u8], out: &mut [u8]) -> Result<
         bytes: schema,
         layouts: &layouts,
     };
-    let mut slots = [BLANK; N];
+    let mut slots = [EMPTY; N];
     with_schema(&schema, s, &mut slots, out)
 }
 

@@ -2,7 +2,7 @@
 #![tactic(auto)]
 
 ghost use Rattle.std.specs.Prelude.{◌≡◌, ℕ, ◌+◌, ◌≤◌, ◌<◌, ◌^◌, length, refl};
-ghost use Rattle.fields.specs.Reading.{be};
+ghost use Rattle.fields.specs.Reading.{be, signed};
 ghost use Rattle.fields.specs.declared.File.TheVariants.{NoFile};
 ghost use Rattle.fields.specs.Writing.{spell, unsigned, put};
 
@@ -164,7 +164,12 @@ impl BigEndian for i32 {
 
     const WIDTH: usize = 4;
 
-    fn get(s: &[u8], at: usize) -> i32 {
+    // The signed number that four bytes spell.
+    fn get(s: &[u8], at: usize) -> i32
+        requires { at + 4 ≤ length s.now }
+        ensures code { unsigned result ≡ be 4 s.now at }
+        ensures value { result ≡ signed (be 4 s.now at) }
+    {
         let bits = <u32 as BigEndian>::get(s, at);
         bits.cast_signed()
     }

@@ -20,7 +20,8 @@ pub fn read_in_force(
     requires { RowsRoom schema.now.bytes.now rows.old }
     ensures { YieldsInForce schema.now.bytes.now p.now a b rows.new result }
 {
-    let read = policy_reader::read_policies(schema, p, a, b, rows);
+    let laid = schema.laid();
+    let read = policy_reader::read_policies(&laid, p, a, b, rows);
     read.map_err(|breach| breach.of(File::Policies))?;
     policies::check_pass(a, b).map_err(|breach| breach.of(File::Pass))
 }

@@ -10,3 +10,4 @@ pub mod Refusals
 pub mod Cut
 pub mod Node
 pub mod Slots
+pub mod Clearing

@@ -51,3 +51,9 @@ pub record SlotsRoom (schema : List ℕ) (slots : List Slot) : Type 0 where
 pub record Unchosen (schema : List ℕ) (slots : List Slot) : Type 0 where
   pub room : SlotsRoom schema slots
   pub none : (n : ℕ) → n < length (schema_of schema) → (slot_at slots n).choice ≡ 255
+
+-- slots of which the first k have no choice any more
+unfoldable pub without_choices : ℕ → List Slot → List Slot
+without_choices zero slots = slots
+without_choices (suc k) [] = []
+without_choices (suc k) (x ∷ slots) = record x { choice = 255 } ∷ without_choices k slots

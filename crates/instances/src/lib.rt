@@ -5,6 +5,7 @@ ghost use Rattle.std.specs.Prelude.{◌≡◌, ◌<◌, length};
 ghost use Rattle.numbers.specs.Bits.{with_all};
 ghost use Rattle.schema.specs.Schema.{schema_of, node_at};
 ghost use Rattle.instances.specs.Instance.{chooses, reaches};
+ghost use Rattle.instances.specs.Plan.{SlotsRoom, without_choices};
 
 use nodes::Schema;
 use schema::{MOST_NODES, MOST_VARIABLES};
@@ -30,11 +31,22 @@ pub struct Slot {
     pub choice: u8,
 }
 
-// What a slot has where nothing is taken: there is no choice.
-pub const BLANK: Slot = Slot {
+// A slot before anything is put into it: all its bytes are 0, so that a table of them is cleared at once.
+pub const EMPTY: Slot = Slot {
     bits: [0; MOST_VARIABLES],
-    choice: 255,
+    choice: 0,
 };
+
+// Takes the choice out of the slot of each node: none is taken yet.
+#[tactic(auto, using(crate::proofs::Clearing::clearing_init, crate::proofs::Clearing::clearing_room, crate::proofs::Clearing::clearing_step, crate::proofs::Clearing::clearing_exit))]
+pub fn clear_choices(schema: &Schema, slots: &mut [Slot])
+    requires { SlotsRoom schema.now.bytes.now slots.old }
+    ensures { slots.new ≡ without_choices (length (schema_of schema.now.bytes.now)) slots.old }
+{
+    for n in 0..schema.node_count() {
+        slots[n].choice = 255;
+    }
+}
 
 // Whether a node is of kind 1 and has successors.
 pub fn chooses(schema: &Schema, n: usize) -> bool

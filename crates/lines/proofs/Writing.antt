@@ -7,14 +7,12 @@ use native.Mathlib.Omega.{arith}
 use native.Mathlib.Numerals.{add-one}
 use lib.ListN.{length, get_or, drop, drop_of_length-le}
 use lib.Seq.{drop-cons}
-use borrow.Author.Tests.{ne_eqb}
+use borrow.Author.Tests.{eq-eqb, ne_eqb}
 use Rattle.std.specs.Prelude.{Result, Ok, Err}
 use Rattle.std.specs.Borrow.{Bor}
 use Rattle.fields.specs.Answers.{number, file_number}
 use Rattle.fields.specs.Writing.{put, Wrote}
-use Rattle.fields.specs.declared.Fault.{Fault}
 use Rattle.fields.specs.declared.Refusal.{Refusal}
-use Rattle.fields.specs.declared.Fault.TheVariants.{Mark, Cut, NodeCount, Links, Successor, Variable, Remainder, PolicyCount, Days, Node, Mask, Pass, NoInstance, Buffer, Entry, Choice, Value, Forbidden}
 use Rattle.fields.proofs.Putting.{wrote_then, Putting, putting-init, putting-step, putting-exit}
 use Rattle.decimals.specs.Decimal.{decimal}
 use Rattle.lines.specs.declared.Verdict.{Verdict}
@@ -115,48 +113,21 @@ module _ (b : List ℕ) (at : ℕ) where
 
 -- ---- what follows the days
 
--- no fault has the number of success
-number-some : (f : Fault) → number f ≡ 0 → ⊥
-number-some Mark e = omega arith
-number-some Cut e = omega arith
-number-some NodeCount e = omega arith
-number-some Links e = omega arith
-number-some Successor e = omega arith
-number-some Variable e = omega arith
-number-some Remainder e = omega arith
-number-some PolicyCount e = omega arith
-number-some Days e = omega arith
-number-some Node e = omega arith
-number-some Mask e = omega arith
-number-some Pass e = omega arith
-number-some NoInstance e = omega arith
-number-some Buffer e = omega arith
-number-some Entry e = omega arith
-number-some Choice e = omega arith
-number-some Value e = omega arith
-number-some Forbidden e = omega arith
-
-module _ {b c d : List ℕ} {at r q : ℕ} (a : Result (Bor (List ℕ)) Refusal) where
-  pub success_wrote : {i : Bor (List ℕ)} → a ≡ Ok i → Laid 29 b at (words (decimal 0 ∷ decimal 0 ∷ decimal 0 ∷ [])) c r → Wrote c r (hex i.now) d q
-      → at + 32 + 2 * length (instance_in a) ≤ length b → Laid (30 + 2 * length (instance_in a)) b at (said answer_text a) d q
+module _ {b c d : List ℕ} {at r q : ℕ} (n file offset : ℕ) (i : List ℕ) (u : Laid 29 b at (words (decimal n ∷ decimal file ∷ decimal offset ∷ [])) c r) where
+  pub answer_good : Wrote c r (hex i) d q → n ≡ 0 → at + 32 + 2 * length i ≤ length b → Laid (30 + 2 * length i) b at (answer_text n file offset i) d q
   unfolding answer_text result_text
-  success_wrote {i} e u v h =
-      let l = rw e at h in
-      rw e (record {
-        wrote = wrote_then (words (decimal 0 ∷ decimal 0 ∷ decimal 0 ∷ [])) (hex i.now) u.wrote v (omega arith);
-        short = omega (arith, u.short, v.next, hex-length i.now);
+  answer_good v e h =
+      rw (eq-eqb n 0 e) (record {
+        wrote = wrote_then (words (decimal n ∷ decimal file ∷ decimal offset ∷ [])) (hex i) u.wrote v (omega arith);
+        short = omega (arith, u.short, v.next, hex-length i);
       })
 
-  pub refusal_wrote : {x : Refusal} {w : Verdict} → a ≡ Err x → w ≡ record { number = number x.fault; file = file_number x.file; offset = x.offset }
-      → Laid 29 b at (words (decimal w.number ∷ decimal w.file ∷ decimal w.offset ∷ [])) c r → Wrote c r (45 ∷ []) d q
-      → at + 32 + 2 * length (instance_in a) ≤ length b → Laid (30 + 2 * length (instance_in a)) b at (said answer_text a) d q
+  pub answer_bad : Wrote c r (45 ∷ []) d q → (n ≡ 0 → ⊥) → at + 32 + 2 * length i ≤ length b → Laid (30 + 2 * length i) b at (answer_text n file offset i) d q
   unfolding answer_text result_text
-  refusal_wrote {x} e k u v h =
-      let l = rw e at h in
-      let w = rw k at u in
-      rw (e, ne_eqb (number x.fault) 0 (number-some x.fault)) (record {
-        wrote = wrote_then (words (decimal (number x.fault) ∷ decimal (file_number x.file) ∷ decimal x.offset ∷ [])) dash w.wrote v (omega arith);
-        short = omega (arith, w.short, v.next);
+  answer_bad v e h =
+      rw (ne_eqb n 0 e) (record {
+        wrote = wrote_then (words (decimal n ∷ decimal file ∷ decimal offset ∷ [])) dash u.wrote v (omega arith);
+        short = omega (arith, u.short, v.next);
       })
 
 -- ---- the lines
@@ -166,11 +137,12 @@ unfolding words
 twice w = w
 
 module _ (o : List ℕ) (at : ℕ) where
-  line_wrote : (k a b n file offset : ℕ) (instance : List ℕ) {o₁ o₂ o₃ : List ℕ} {r₁ r₂ r₃ : ℕ} → Laid 12 o at (words (decimal a ∷ decimal b ∷ [])) o₁ r₁
-      → Laid (30 + k) o₁ r₁ (answer_text n file offset instance) o₂ r₂ → Wrote o₂ r₂ (10 ∷ []) o₃ r₃
-      → at + 64 + k ≤ length o → Laid (64 + k) o at (line_of a b n file offset instance) o₃ r₃
+  pub line_wrote : (a b n file offset : ℕ) (instance : List ℕ) {v : Verdict} {o₁ o₂ o₃ : List ℕ} {r₁ r₂ r₃ : ℕ} → v ≡ record { number = n; file = file; offset = offset }
+      → Laid 12 o at (words (decimal a ∷ decimal b ∷ [])) o₁ r₁ → Laid (30 + 2 * length instance) o₁ r₁ (answer_text v.number v.file v.offset instance) o₂ r₂ → Wrote o₂ r₂ (10 ∷ []) o₃ r₃
+      → at + 64 + 2 * length instance ≤ length o → Laid (64 + 2 * length instance) o at (line_of a b n file offset instance) o₃ r₃
   unfolding line_of line answer_text
-  line_wrote k a b n file offset instance u v w h =
+  line_wrote a b n file offset instance k u v w h =
+      let d = rw k at v in
       let xs = words (decimal a ∷ decimal b ∷ []) in
       let ys = words (decimal n ∷ decimal file ∷ decimal offset ∷ []) in
       let zs = result_text n instance in
@@ -178,15 +150,17 @@ module _ (o : List ℕ) (at : ℕ) where
       record {
         wrote =
             rw (words-then (decimal a ∷ decimal b ∷ []) (decimal n ∷ decimal file ∷ decimal offset ∷ []), ← e)
-            (wrote_then (xs ++ (ys ++ zs)) (10 ∷ []) (wrote_then xs (ys ++ zs) u.wrote v.wrote (omega arith)) w (omega arith));
-        short = omega (arith, u.short, v.short, w.next);
+            (wrote_then (xs ++ (ys ++ zs)) (10 ∷ []) (wrote_then xs (ys ++ zs) u.wrote d.wrote (omega arith)) w (omega arith));
+        short = omega (arith, u.short, d.short, w.next);
       }
 
-  pub answer_wrote : (a b : ℕ) (r : Result (Bor (List ℕ)) Refusal) {o₁ o₂ o₃ : List ℕ} {r₁ r₂ r₃ : ℕ} → Laid 12 o at (words (decimal a ∷ decimal b ∷ [])) o₁ r₁
-      → Laid (30 + 2 * length (instance_in r)) o₁ r₁ (said answer_text r) o₂ r₂ → Wrote o₂ r₂ (10 ∷ []) o₃ r₃
-      → at + 64 + 2 * length (instance_in r) ≤ length o → Laid (64 + 2 * length (instance_in r)) o at (said (line_of a b) r) o₃ r₃
-  answer_wrote a b (Ok i) = line_wrote (2 * length i.now) a b 0 0 0 i.now
-  answer_wrote a b (Err r) = line_wrote 0 a b (number r.fault) (file_number r.file) r.offset []
+  module _ (a b : ℕ) (x : Result (Bor (List ℕ)) Refusal) {o₁ : List ℕ} {r : ℕ} where
+    pub success_wrote : {i : Bor (List ℕ)} → x ≡ Ok i → Laid (64 + 2 * length i.now) o at (line_of a b 0 0 0 i.now) o₁ r → Laid (64 + 2 * length (instance_in x)) o at (said (line_of a b) x) o₁ r
+    success_wrote e w = rw e w
+
+    pub refusal_wrote : {y : Refusal} {n file : ℕ} → x ≡ Err y → n ≡ number y.fault → file ≡ file_number y.file → Laid 64 o at (line_of a b n file y.offset []) o₁ r
+        → Laid (64 + 2 * length (instance_in x)) o at (said (line_of a b) x) o₁ r
+    refusal_wrote e f g w = rw e (rw (f, g) at w)
 
   pub bad_line_wrote : (n offset : ℕ) {v : Verdict} {o₁ o₂ o₃ o₄ : List ℕ} {r : ℕ} → v ≡ record { number = n; file = 3; offset = offset } → o₁ ≡ put o at (45 ∷ 32 ∷ []) → o₂ ≡ put o₁ (at + 2) (45 ∷ 32 ∷ [])
       → Laid 29 o₂ (at + 4) (words (decimal v.number ∷ decimal v.file ∷ decimal v.offset ∷ [])) o₃ r → o₄ ≡ put o₃ r (45 ∷ 10 ∷ []) → at + 64 ≤ length o

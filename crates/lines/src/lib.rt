@@ -2,13 +2,13 @@
 #![tactic(auto)]
 
 ghost use Rattle.std.specs.Prelude.{◌≡◌, [], ◌∷◌, ◌+◌, ◌*◌, ◌<◌, ◌≤◌, length};
-ghost use Rattle.fields.specs.Answers.{number, file_number, as_got};
+ghost use Rattle.fields.specs.Answers.{as_got};
 ghost use Rattle.fields.specs.Writing.{Wrote};
 ghost use Rattle.decimals.specs.Decimal.{decimal};
 ghost use Rattle.lines.specs.Record.{pass_at};
 ghost use Rattle.lines.specs.Line.{hex, hex_digit, words, line_of, bad_line_of, answer_text, instance_in, said, Laid};
 
-use fields::{Breach, Fault, File, Refusal};
+use fields::{Breach, File, Refusal};
 use reading::{read, read_mark};
 
 // A pass's first and last day.
@@ -77,20 +77,13 @@ struct Verdict {
     offset: u64,
 }
 
-// All three are 0 on success.
-const SUCCESS: Verdict = Verdict {
-    number: 0,
-    file: 0,
-    offset: 0,
-};
-
 impl Verdict {
-    fn new(fault: Fault, file: File, offset: u64) -> Verdict
-        ensures { result ≡ record { number = number fault; file = file_number file; offset = offset } }
+    fn new(number: u8, file: u8, offset: u64) -> Verdict
+        ensures { result ≡ record { number = number; file = file; offset = offset } }
     {
         Verdict {
-            number: fault as u8,
-            file: file as u8,
+            number,
+            file,
             offset,
         }
     }
@@ -128,42 +121,67 @@ fn put_hex(out: &mut [u8], from: usize, bytes: &[u8]) -> usize
     at
 }
 
-// A call's answer: number, file and offset, and the instance, or - on refusal.
-fn put_answer(out: &mut [u8], at: usize, answer: Result<&[u8], Refusal>) -> usize
-    requires { at + 32 + 2 * length (instance_in answer) ≤ length out.old }
-    ensures { Laid (30 + 2 * length (instance_in answer.entry)) out.old at (said answer_text answer.entry) out.new result }
+// Number, file and offset, and the instance, or - where the number says a refusal.
+fn put_answer(out: &mut [u8], at: usize, verdict: Verdict, instance: &[u8]) -> usize
+    requires { at + 32 + 2 * length instance.now ≤ length out.old }
+    ensures { Laid (30 + 2 * length instance.now) out.old at (answer_text verdict.number verdict.file verdict.offset instance.now) out.new result }
+{
+    let at = verdict.put(out, at);
+    if verdict.number == 0 {
+        return put_hex(out, at, instance);
+    }
+    put_byte(out, at, b'-')
+}
+
+// The line of a pass that was read.
+pub fn put_line(
+    out: &mut [u8],
+    at: usize,
+    a: u16,
+    b: u16,
+    number: u8,
+    file: u8,
+    offset: usize,
+    instance: &[u8],
+) -> usize
+    requires { at + 64 + 2 * length instance.now ≤ length out.old }
+    ensures { Laid (64 + 2 * length instance.now) out.old at (line_of a b number file offset instance.now) out.new result }
+{
+    let days = Days { a, b };
+    let at = days.put(out, at);
+    let verdict = Verdict::new(number, file, offset as u64);
+    let at = put_answer(out, at, verdict, instance);
+    put_byte(out, at, b'\n')
+}
+
+// The same by what the call answered: number, file and offset are 0 on success, and a refusal has no instance.
+pub fn put_answer_line(
+    out: &mut [u8],
+    at: usize,
+    days: Days,
+    answer: Result<&[u8], Refusal>,
+) -> usize
+    requires { at + 64 + 2 * length (instance_in answer) ≤ length out.old }
+    ensures { Laid (64 + 2 * length (instance_in answer.entry)) out.old at (said (line_of days.a days.b) answer.entry) out.new result }
 {
     match answer {
-        Ok(instance) => {
-            let at = SUCCESS.put(out, at);
-            put_hex(out, at, instance)
-        }
+        Ok(instance) => put_line(out, at, days.a, days.b, 0, 0, 0, instance),
         Err(refusal) => {
-            let verdict = Verdict::new(refusal.fault, refusal.file, refusal.offset as u64);
-            let at = verdict.put(out, at);
-            put_byte(out, at, b'-')
+            let number = refusal.fault as u8;
+            let file = refusal.file as u8;
+            put_line(out, at, days.a, days.b, number, file, refusal.offset, &[])
         }
     }
 }
 
-// The line of a pass that was read.
-pub fn put_line(out: &mut [u8], at: usize, days: Days, answer: Result<&[u8], Refusal>) -> usize
-    requires { at + 64 + 2 * length (instance_in answer) ≤ length out.old }
-    ensures { Laid (64 + 2 * length (instance_in answer.entry)) out.old at (said (line_of days.a days.b) answer.entry) out.new result }
-{
-    let at = days.put(out, at);
-    let at = put_answer(out, at, answer);
-    put_byte(out, at, b'\n')
-}
-
-// The line of a bad PS: its fault, and its offset from the start of the input.
-pub fn put_bad_line(out: &mut [u8], at: usize, fault: Fault, offset: u64) -> usize
+// The line of a bad PS: its number, and its offset from the start of the input.
+pub fn put_bad_line(out: &mut [u8], at: usize, number: u8, offset: u64) -> usize
     requires { at + 64 ≤ length out.old }
-    ensures { Laid 64 out.old at (bad_line_of (number fault) offset) out.new result }
+    ensures { Laid 64 out.old at (bad_line_of number offset) out.new result }
 {
     writing::put_mark(out, at, b"- ");
     writing::put_mark(out, at + 2, b"- ");
-    let verdict = Verdict::new(fault, File::Pass, offset);
+    let verdict = Verdict::new(number, File::Pass as u8, offset);
     let at = verdict.put(out, at + 4);
     writing::put_mark(out, at, b"-\n");
     at + 2

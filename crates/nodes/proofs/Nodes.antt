@@ -1,7 +1,8 @@
 -- What an accepted schema's bytes and layouts tell of a node, at the places that the methods read.
--- Rests on the laws of those places, in the schema's Access.
-use mathlib.Core.Path.{◌≡◌, sym, subst, ◌∙◌}
+-- Rests on the laws of those places and of a node's successors, in the schema's Access.
+use mathlib.Core.Path.{◌≡◌, ap, sym, subst, ◌∙◌}
 use mathlib.Core.Bool.{true}
+use mathlib.Core.List.{List}
 use Prim.Native.Nat.{ℕ, ◌+◌, ◌-◌, ◌≤◌, ◌<◌}
 use native.Mathlib.Omega.{arith}
 use lib.ListN.{length, get_or, take, drop, length-drop}
@@ -9,24 +10,25 @@ use lib.Seq.{get_or-take, get_or-drop, length-take-le, ext_get_or}
 use lib.IntN.{ℤ}
 use mir.Val.{to_z, of_z}
 use mir.Syntax.{w32}
+use Rattle.std.specs.List.{All}
+use Rattle.std.proofs.lemmas.List.Elements.{All-same, All-from_get_or}
 use Rattle.fields.specs.Reading.{be}
 use Rattle.schema.specs.Schema.{schema_of, node_at, variable_at, is_number}
 use Rattle.schema.specs.Layout.{rank_count}
-use Rattle.schema.specs.Table.{node_width, layout_at, successor_set, AtMost}
+use Rattle.schema.specs.Table.{node_width, layout_at, successor_set, Accepted, AtMost}
 use Rattle.schema.specs.declared.Variable.TheVariants.{Number, Listed}
 use Rattle.schema.proofs.Node.{OneNode}
 use Rattle.schema.proofs.Access as access
 use Rattle.nodes.specs.declared.Schema.{Schema}
 
-module _ (x : Schema) where
-  pub count_inside : 2 < length x.bytes.now
-  count_inside = access.count-inside x.bytes.now x.accepted
+pub count_inside : (s : List ℕ) → Accepted s → 2 < length s
+count_inside = access.count-inside
 
-  pub count_is : {r : ℕ} → r ≡ get_or x.bytes.now 2 0 → AtMost 64 (length (schema_of x.bytes.now)) r
-  count_is e = access.count_at x.bytes.now x.accepted e
+pub count_is : (s : List ℕ) {r : ℕ} → Accepted s → r ≡ get_or s 2 0 → AtMost 64 (length (schema_of s)) r
+count_is = access.count_at
 
-  pub node_inside : (n : ℕ) → n < length (schema_of x.bytes.now) → n < length x.layouts.now
-  node_inside n l = omega (arith, x.tabled.long)
+pub node_inside : (x : Schema) (n : ℕ) → n < length (schema_of x.bytes.now) → n < length x.layouts.now
+node_inside x n l = omega (arith, x.tabled.long)
 
 module _ (x : Schema) (n : ℕ) (l : n < length (schema_of x.bytes.now)) where
   abbrev here : OneNode x.bytes.now (length (schema_of x.bytes.now)) n (layout_at x.layouts.now n).start (node_at (schema_of x.bytes.now) n) ((layout_at x.layouts.now n).start + node_width (node_at (schema_of x.bytes.now) n))
@@ -52,6 +54,23 @@ module _ (x : Schema) (n : ℕ) (l : n < length (schema_of x.bytes.now)) where
           rw w (ext_get_or 0 (take k (drop (a + 4) x.bytes.now)) (node_at (schema_of x.bytes.now) n).successors (m ∙ sym size_is)
           (λ j h. get_or-take k (drop (a + 4) x.bytes.now) j 0 (omega (arith, m)) ∙ get_or-drop (a + 4) x.bytes.now j 0
           ∙ (rw (← e) at (sym (here.links j (omega (arith, m, size_is)))))))
+
+  -- they are few, and nodes above it
+
+  abbrev links : List ℕ
+  links = (node_at (schema_of x.bytes.now) n).successors
+
+  module _ (xs : List ℕ) (e : xs ≡ links) where
+    pub successors_few : length xs ≤ 8
+    successors_few = omega (arith, ap length e, access.successors_few x.bytes.now n l)
+
+    pub successors_above : All (λ y. n < y) xs
+    successors_above = All-same (λ (y : ℕ). n < y) xs links e (All-from_get_or (λ (y : ℕ). n < y) links 0 (λ j h. access.successor_above x.bytes.now n j l h))
+
+    pub successors_below : All (λ y. y < length (schema_of x.bytes.now)) xs
+    successors_below =
+        All-same (λ (y : ℕ). y < length (schema_of x.bytes.now)) xs links e
+        (All-from_get_or (λ (y : ℕ). y < length (schema_of x.bytes.now)) links 0 (λ j h. access.successor_below x.bytes.now n j l h))
 
   -- ---- what its layout tells alone
 

@@ -1,7 +1,8 @@
-// An accepted schema with the layouts of its nodes, what it tells of them, and how many layouts a table has.
+// A schema with the layouts of its nodes, what it tells of them, and how many layouts a table has.
 #![tactic(auto, using(crate::proofs::Nodes::of_nodes))]
 
-ghost use Rattle.std.specs.Prelude.{ℕ, ◌≡◌, true, ◌<◌, length, get_or};
+ghost use Rattle.std.specs.Prelude.{ℕ, ◌≡◌, true, ◌<◌, ◌≤◌, length, get_or};
+ghost use Rattle.std.specs.List.{All};
 ghost use mir.Val.{Fits};
 ghost use mir.Syntax.{w8};
 ghost use Rattle.schema.specs.Schema.{most_nodes, schema_of, node_at, variable_at, is_number};
@@ -25,6 +26,38 @@ pub struct Bounds {
     pub hi: i32,
 }
 
+// The number of nodes of an accepted schema's file.
+pub fn count_of(s: &[u8]) -> usize
+    requires { Accepted s.now }
+    ensures { AtMost most_nodes (length (schema_of s.now)) result }
+{
+    usize::from(s[2])
+}
+
+// The nodes of a schema's file, as its reader laid them out, and how many there are: none where the file is refused.
+#[derive(Clone, Copy)]
+pub struct Laid<'a> {
+    pub bytes: &'a [u8],
+    pub layouts: &'a [Layout],
+    pub count: usize,
+    pub ghost tabled: { Tabled bytes.now layouts.now },
+    pub ghost counted: { count ≡ length (schema_of bytes.now) },
+    pub ghost bytes_fit: { (k : ℕ) → Fits w8 (get_or bytes.now k 0) },
+}
+
+impl<'a> Laid<'a> {
+    // The schema, which is accepted where there is a node.
+    pub fn accepted(&self) -> Schema<'a>
+        requires { 0 < self.now.count }
+        ensures same_bytes { result.bytes.now ≡ self.now.bytes.now }
+        ensures same_layouts { result.layouts.now ≡ self.now.layouts.now }
+    {
+        let bytes = self.bytes;
+        let layouts = self.layouts;
+        Schema { bytes, layouts }
+    }
+}
+
 // An accepted schema: the bytes of its file, and the layouts that its reader filled.
 #[derive(Clone, Copy)]
 pub struct Schema<'a> {
@@ -36,17 +69,32 @@ pub struct Schema<'a> {
 }
 
 impl<'a> Schema<'a> {
+    // The same for whom a refused schema would do too.
+    pub fn laid(&self) -> Laid<'a>
+        ensures same_bytes { result.bytes.now ≡ self.now.bytes.now }
+        ensures same_layouts { result.layouts.now ≡ self.now.layouts.now }
+    {
+        Laid {
+            bytes: self.bytes,
+            layouts: self.layouts,
+            count: self.node_count(),
+        }
+    }
+
     // The number of nodes.
     pub fn node_count(&self) -> usize
         ensures { AtMost most_nodes (length (schema_of self.now.bytes.now)) result }
     {
-        usize::from(self.bytes[2])
+        count_of(self.bytes)
     }
 
-    // Node n's successors, as its record has them.
+    // Node n's successors, as its record has them: at most eight nodes, each above n.
     pub fn successors(&self, n: usize) -> &'a [u8]
         requires { n < length (schema_of self.now.bytes.now) }
-        ensures { result.now ≡ (node_at (schema_of self.now.bytes.now) n).successors }
+        ensures is { result.now ≡ (node_at (schema_of self.now.bytes.now) n).successors }
+        ensures few { length result.now ≤ 8 }
+        ensures above { All (λ x. n < x) result.now }
+        ensures below { All (λ x. x < length (schema_of self.now.bytes.now)) result.now }
     {
         let at = usize::from(self.layouts[n].start);
         let first = at + 4;

@@ -14,14 +14,14 @@ use schema::{MOST_NODES, MOST_SUCCESSORS};
 use std::cmp::Ordering;
 
 // The column of x among node n's successors, their number where it is none of them.
-pub fn column_of(schema: &Schema, n: usize, x: u8) -> usize
+pub fn column_of(schema: &Schema, n: usize, x: usize) -> usize
     requires { n < length (schema_of schema.now.bytes.now) }
     ensures { AtMost 8 (column_of x (node_at (schema_of schema.now.bytes.now) n).successors) result }
 {
     let successors = schema.successors(n);
     successors
         .iter()
-        .position(|s| *s == x)
+        .position(|s| usize::from(*s) == x)
         .unwrap_or(successors.len())
 }
 

@@ -87,9 +87,9 @@ pub offset_fits : (from : ℕ) (s : List ℕ) (at n : ℕ) {o : ℕ} → bad n o
 offset_fits from s at n e l = omega (arith, (pass-stops s at (sym e)).upto)
 
 module _ (f p : List ℕ) (from : ℕ) (s : List ℕ) (at : ℕ) where
-  pub bad_answered : {n o : ℕ} → bad n o ≡ pass_at s at → (b : List ℕ) (to : ℕ) {c : List ℕ} {r : ℕ} → Laid 64 b to (bad_line_of n (from + o)) c r → Answered f p from s at b to c (Break r)
+  pub bad_answered : {m n o : ℕ} → bad n o ≡ pass_at s at → (b : List ℕ) (to : ℕ) {c : List ℕ} {r : ℕ} → Laid 64 b to (bad_line_of m (from + o)) c r → m ≡ n → Answered f p from s at b to c (Break r)
   unfolding line_for ends
-  bad_answered e b to w = let z = sym e in record { laid = rw z (record { wrote = w.wrote; short = omega (arith, w.short) }); last = rw z refl }
+  bad_answered e b to w h = let z = sym e in record { laid = rw (z, ← h) (record { wrote = w.wrote; short = omega (arith, w.short) }); last = rw z refl }
 
   pub good_answered : {x : Days} {q : ℕ} → got x q ≡ pass_at s at → (b : List ℕ) (to : ℕ) {c : List ℕ} {r : ℕ}
       → Laid most_line b to (line_in x.a x.b (reconciling f p x.a x.b (replicate most_bytes 0))) c r → Answered f p from s at b to c (Continue r)

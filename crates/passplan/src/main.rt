@@ -30,8 +30,8 @@ fn put_pass(
     ensures { Laid most_line out.old to (line_in days.a days.b (reconciling schema.now policies.now days.a days.b instance.old)) out.new result }
 {
     match reconciler::reconcile(schema, policies, days.a, days.b, instance) {
-        Ok(n) => lines::put_line(out, to, days, Ok(&instance[..n])),
-        Err(refusal) => lines::put_line(out, to, days, Err(refusal)),
+        Ok(n) => lines::put_answer_line(out, to, days, Ok(&instance[..n])),
+        Err(refusal) => lines::put_answer_line(out, to, days, Err(refusal)),
     }
 }
 
@@ -53,7 +53,7 @@ fn put_answer(
     match lines::read_pass(s, at) {
         Err(breach) => {
             let offset = from + breach.offset as u64;
-            ControlFlow::Break(lines::put_bad_line(out, to, breach.fault, offset))
+            ControlFlow::Break(lines::put_bad_line(out, to, breach.fault as u8, offset))
         }
         Ok((days, _)) => {
             let mut instance = [0u8; MOST_BYTES];
@@ -141,6 +141,19 @@ fn read_records<R: Read>(input: &mut R, b: &mut [u8]) -> usize
     n + more
 }
 
+// Writes all of b, or up to the first write that fails, an interrupted one too, or that takes nothing.
+fn write_out<W: Write>(output: &mut W, b: &[u8]) -> Result<(), ErrorKind> {
+    let mut n: usize = 0;
+    while n < b.len() {
+        let more = output.write(&b[n..]).map_err(|e| e.kind())?;
+        if more == 0 {
+            return Err(ErrorKind::WriteZero);
+        }
+        n += more;
+    }
+    Ok(())
+}
+
 // Answers what input is there, and how many bytes it had: 0 where the run ends.
 fn turn(
     rt: &HostRuntime,
@@ -159,7 +172,7 @@ fn turn(
         ControlFlow::Continue(end) => (end, n),
         ControlFlow::Break(end) => (end, 0),
     };
-    rt.stdout().write_all(&out[..end]).map_err(|e| e.kind())?;
+    write_out(&mut rt.stdout(), &out[..end])?;
     Ok(read)
 }
 

@@ -55,12 +55,16 @@ module _ (schema s : List ℕ) (low p : ℕ) where
         below : rule (schema_of schema) s low p ≡ rule_of s (node_at (schema_of schema) v) v b
         below = let z : v < length (schema_of schema) = omega (arith, w) in rw (opened, le-leb low v x, lt-ltb v (length (schema_of schema)) z)
 
-        pub rule_refused : {m o : ℕ} → bad m o ≡ end_of (rule_of s (node_at (schema_of schema) v) v b) → bad m o ≡ rule_read (rule (schema_of schema) s low p)
-        rule_refused u = rw (below, stopped (rule_of s (node_at (schema_of schema) v) v b) u)
+        -- by a schema z of the same bytes
+        read_as : {z : List ℕ} {x : Got Unit} → x ≡ end_of (rule_of s (node_at (schema_of z) v) v b) → z ≡ schema → x ≡ end_of (rule_of s (node_at (schema_of schema) v) v b)
+        read_as {z} {x} u i = subst (λ (y : List ℕ). x ≡ end_of (rule_of s (node_at (schema_of y) v) v b)) i u
 
-        pub rule_named : {q : ℕ} → got tt q ≡ end_of (rule_of s (node_at (schema_of schema) v) v b) → got v q ≡ rule_read (rule (schema_of schema) s low p)
-        rule_named {q} u =
-            let l = stepped (rule_of s (node_at (schema_of schema) v) v b) u in
+        pub rule_refused : {m o : ℕ} {z : List ℕ} → bad m o ≡ end_of (rule_of s (node_at (schema_of z) v) v b) → z ≡ schema → bad m o ≡ rule_read (rule (schema_of schema) s low p)
+        rule_refused u i = rw (below, stopped (rule_of s (node_at (schema_of schema) v) v b) (read_as u i))
+
+        pub rule_named : {q : ℕ} {z : List ℕ} → got tt q ≡ end_of (rule_of s (node_at (schema_of z) v) v b) → z ≡ schema → got v q ≡ rule_read (rule (schema_of schema) s low p)
+        rule_named {q} u i =
+            let l = stepped (rule_of s (node_at (schema_of schema) v) v b) (read_as u i) in
             let n : v ≡ l.0.node = sym (rule-of-back s (node_at (schema_of schema) v) v b l.1).node in
             rw (below, l.1) (ap (λ (i : ℕ). got i q) n)
 
@@ -108,7 +112,7 @@ module _ (schema : List ℕ) (t : List Layout) (s : List ℕ) (low n p : ℕ) {c
   body = let z : p + 2 + 1 ≡ p + 3 = omega arith in rw z (good-read schema t n d (omega (arith, c)) s p e l)
 
   pub good_rule : got n (p + x.rule_width) ≡ rule_read (rule (schema_of schema) s low p)
-  good_rule = rule_named schema s low p marked named c a b body
+  good_rule = rule_named schema s low p marked named c a b body refl
 
   pub good_end : p + x.rule_width ≤ length s
   good_end = omega (arith, inside.0, three)

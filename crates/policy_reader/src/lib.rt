@@ -13,7 +13,7 @@ ghost use Rattle.policy_reader.specs.Runs.{head_read, rule_read, note_if, note_i
 ghost use Rattle.policy_reader.specs.Answers.{YieldsPolicies};
 
 use fields::{BigEndian, Breach, Fault};
-use nodes::Schema;
+use nodes::Laid;
 use policies::{MOST_POLICIES, Row};
 use reading::{read, read_mark};
 use schema::Layout;
@@ -175,7 +175,7 @@ fn take_row(
 // A PN, of a node not below the lowest that may follow, field by field: its node, and the position after it.
 #[tactic(auto, using(crate::proofs::Rules::rule_bad, crate::proofs::Rules::rule_low, crate::proofs::Rules::rule_high, crate::proofs::Rules::rule_refused, crate::proofs::Rules::rule_named), unfolding(fields::specs::Reading::part, fields::specs::Reading::field, policies::specs::Policies::rule))]
 fn read_rule(
-    schema: &Schema,
+    schema: &Laid,
     count: usize,
     b: &[u8],
     from: Progress,
@@ -189,14 +189,15 @@ fn read_rule(
     if node < from.low || count <= node {
         return Err(Breach::new(Fault::Node, at));
     }
-    let next = rule_reader::read_fields(schema, node, b, body)?;
+    let accepted = schema.accepted();
+    let next = rule_reader::read_fields(&accepted, node, b, body)?;
     Ok((node, next))
 }
 
 // The same, at once where it is plainly good.
 #[tactic(auto, using(crate::proofs::Rules::take_inside, crate::proofs::Rules::good_end))]
 fn take_rule(
-    schema: &Schema,
+    schema: &Laid,
     count: usize,
     b: &[u8],
     from: Progress,
@@ -219,7 +220,7 @@ fn take_rule(
 // The n PN of a policy from a position on, of nodes not below the lowest, noted if it is kept.
 #[tactic(auto, using(crate::proofs::Rules::rest_init))]
 fn take_rest(
-    schema: &Schema,
+    schema: &Laid,
     count: usize,
     b: &[u8],
     head: usize,
@@ -256,7 +257,7 @@ fn row_end(n: usize, count: usize) -> usize
 // The n PN of a policy, noted if it is kept. As a rule there is one for each node: then they stand in a row.
 #[tactic(auto, using(crate::proofs::Rules::open_end, crate::proofs::Rules::row_open))]
 fn read_rules(
-    schema: &Schema,
+    schema: &Laid,
     b: &[u8],
     head: usize,
     n: usize,
@@ -269,7 +270,7 @@ fn read_rules(
     requires fact { Open (length (schema_of schema.now.bytes.now)) 0 rows.old }
     ensures { outcome result rows.new ≡ left_of (schema_of schema.now.bytes.now) b.now keep head n 0 from rows.old }
 {
-    let count = schema.node_count();
+    let count = schema.count;
     let row = take_row(schema.layouts, row_end(n, count), b, head, from, keep, rows);
     take_rest(schema, count, b, head, n - row.low, row, keep, rows)
 }
@@ -284,7 +285,7 @@ fn is_in_force(first: u16, last: u16, a: u16, b: u16) -> bool
 // The policy whose head stands at an offset of the file, read on its own stretch, and noted if it is in force.
 #[tactic(auto, using(crate::proofs::File::policy_bad, crate::proofs::File::policy_rules, crate::proofs::File::rules_inside, crate::proofs::File::stretch_fits))]
 fn read_policy(
-    schema: &Schema,
+    schema: &Laid,
     p: &[u8],
     head: usize,
     a: u16,
@@ -304,7 +305,7 @@ fn read_policy(
 
 // The turn at an offset of the file, after j policies: the offset after one more, or none where the file ends.
 fn turn_at(
-    schema: &Schema,
+    schema: &Laid,
     p: &[u8],
     at: usize,
     j: usize,
@@ -338,7 +339,7 @@ struct Walker<'a> {
 // A walker goes from head to head; what a turn does stands in a function of a slice and numbers.
 #[tactic(auto, using(crate::proofs::File::turn_ready))]
 pub fn read_policies(
-    schema: &Schema,
+    schema: &Laid,
     p: &[u8],
     a: u16,
     b: u16,

@@ -14,7 +14,7 @@ ghost use Rattle.calls.specs.Calls.{given, reconciling};
 ghost use Rattle.reconciler.specs.Plan.{held_by};
 
 use fields::{Fault, File, Refusal};
-use instances::{BLANK, MOST_BYTES, Slot};
+use instances::{EMPTY, MOST_BYTES, Slot};
 use nodes::{FEW_NODES, FEWEST_NODES, Schema};
 use policies::{NO_POLICIES, Policies};
 use schema::{MOST_NODES, NO_LAYOUT};
@@ -69,7 +69,7 @@ fn in_force(
 
 // Schema, policies and pass, then the instance, with tables for so many nodes. Each size is called once, so that the compiler
 // makes it part of its caller.
-#[tactic(auto, using(schema::proofs::Fill::room_in, inputs::proofs::Above::rows_in, crate::proofs::Reading::eligible_in, instances::proofs::Slots::unchosen_in, calls::proofs::Inputs::schema_bad_did), unfolding(calls::specs::Calls::reconciling))]
+#[tactic(auto, using(schema::proofs::Fill::room_in, inputs::proofs::Above::rows_in, crate::proofs::Reading::eligible_in, instances::proofs::Slots::slots_in, instances::proofs::Clearing::cleared_unchosen, calls::proofs::Inputs::schema_bad_did), unfolding(calls::specs::Calls::reconciling))]
 fn with_room<'a, const N: usize>(
     schema: &'a [u8],
     p: &'a [u8],
@@ -94,7 +94,8 @@ fn with_room<'a, const N: usize>(
         rows: &rows,
     };
     let mut eligible = [0u64; N];
-    let mut slots = [BLANK; N];
+    let mut slots = [EMPTY; N];
+    instances::clear_choices(&schema, &mut slots);
     in_force(policies, &mut eligible, &mut slots, out)
 }
 

@@ -13,7 +13,7 @@ ghost use Rattle.calls.specs.Calls.{sheeting};
 
 use columns::LINE_BYTES;
 use fields::{Fault, File, Refusal};
-use instances::{BLANK, Slot};
+use instances::{EMPTY, Slot};
 use nodes::{FEW_NODES, Schema};
 use schema::{MOST_NODES, NO_LAYOUT};
 
@@ -58,7 +58,7 @@ fn with_room<const N: usize>(schema: &[u8], file: &[u8], out: &mut [u8]) -> Resu
         bytes: schema,
         layouts: &layouts,
     };
-    let mut slots = [BLANK; N];
+    let mut slots = [EMPTY; N];
     with_schema(&schema, file, &mut slots, out)
 }
 

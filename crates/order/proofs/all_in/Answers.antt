@@ -11,9 +11,9 @@ use Rattle.order.proofs.all_in.Goals as goal
 pub all-requires-clause-callable : goal.all-requires-clause-callable
 all-requires-clause-callable c =
     serves_from_places (YieldsList-from_slice c.successors.result.now (search rules)) (λ x q h. search rules)
-    (λ x k h e. search (rules, successors_low c.args.schema.now c.args.n c.requires c.successors.ensures k x.now h e))
+    (λ x k h e. search (rules, successors_low c.args.schema.now c.args.n c.requires c.successors.ensures.is k x.now h e))
 
 pub returns : goal.returns
 returns c =
-    all_every c.args.schema.now c.args.n c.requires c.args.nodes.now c.successors.ensures
+    all_every c.args.schema.now c.args.n c.requires c.args.nodes.now c.successors.ensures.is
     (all_from_yields_List (in_set c.args.nodes.now) _ _ _ c.all.ensures.ran (YieldsList-from_slice c.successors.result.now (search rules)) (λ x b q k. search (rules, tests)))

@@ -9,6 +9,6 @@ use Rattle.order.proofs.column_of.Goals as goal
 
 pub returns : goal.returns
 returns c =
-    column_found c.args.schema.now c.args.n c.requires c.args.x c.successors-successors.ensures
+    column_found c.args.schema.now c.args.n c.requires c.args.x c.successors-successors.ensures.is
     (position_from_yields_List (λ s. eqb s c.args.x) _ _ _ c.position.ensures.ran (YieldsList-from_slice c.successors-successors.result.now (search rules)) (λ x b q k. search (rules, tests)))
     c.unwrap_or.ensures

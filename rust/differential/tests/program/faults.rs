@@ -80,7 +80,9 @@ fn a_write_error() {
     let (Files { schema, policies }, input) = (longest(), days(DAY, 60));
     let wanted = passplan(&schema, &policies, &input);
     for after in [0, 1, 4_095, 4_096, 4_097, 62_040, 65_536, 100_000] {
-        let faults = Faults::Error { file: "stdout", after, errno: EIO };
-        Run { faults, ..Run::on(&schema, &policies, &input) }.prints(&wanted[..after]);
+        for errno in [EINTR, EIO] {
+            let faults = Faults::Error { file: "stdout", after, errno };
+            Run { faults, ..Run::on(&schema, &policies, &input) }.prints(&wanted[..after]);
+        }
     }
 }
