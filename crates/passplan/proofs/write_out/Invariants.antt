@@ -1,4 +1,5 @@
 -- What is left to write falls, since a write that takes nothing ends the loop.
+-- Rests on nothing.
 use Rattle.std.proofs.Common.{length, ◌-◌, ◌≤◌}
 use Rattle.passplan.proofs.write_out.Given as goal
 
